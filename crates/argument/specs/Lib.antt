@@ -1,0 +1,5 @@
+pub mod Waiting
+pub mod Load
+pub mod Within
+pub mod Members
+pub mod Choice

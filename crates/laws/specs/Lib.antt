@@ -1,0 +1,3 @@
+pub mod Sums
+pub mod Used
+pub mod Accepted

@@ -1,0 +1,39 @@
+-- Document 01, "Refusal numbers".
+use mathlib.Core.Bool.{Bool, cond}
+use Prim.Native.Nat.{ℕ}
+use lib.Dec.{eqb}
+use Rattle.model.specs.declared.answers.Fault.{Fault}
+use Rattle.model.specs.declared.answers.Refusal.{Refusal}
+use Rattle.model.specs.declared.answers.Refusal.the-variants.{Nothing, BadForm, NoChannel, TooManyFlows, BadPeriod, BadDeadline, BadTries, BadRoute, NodeTwice, TooMuchWork, NoRoom, AtLastSlot, BadState, NoSuchFlow}
+
+-- the number of each case; 0 where nothing is refused
+abbrev pub refusalNumber : Refusal → ℕ
+refusalNumber Nothing = 0
+refusalNumber BadForm = 1
+refusalNumber NoChannel = 2
+refusalNumber TooManyFlows = 3
+refusalNumber BadPeriod = 4
+refusalNumber BadDeadline = 5
+refusalNumber BadTries = 6
+refusalNumber BadRoute = 7
+refusalNumber NodeTwice = 8
+refusalNumber TooMuchWork = 9
+refusalNumber NoRoom = 10
+refusalNumber AtLastSlot = 11
+refusalNumber BadState = 12
+refusalNumber NoSuchFlow = 13
+
+-- nothing is refused
+abbrev pub good : Refusal → Bool
+good r = eqb (refusalNumber r) 0
+
+-- a refusal and the line that it names
+abbrev pub faultAt : Refusal → ℕ → Fault
+faultAt r n = record { refusal = r; line = n }
+
+abbrev pub noFault : Fault
+noFault = faultAt Nothing 0
+
+-- the refusal, if it is one, before what comes later
+abbrev pub orElse : Fault → Fault → Fault
+orElse f g = cond (good (f .refusal)) g f

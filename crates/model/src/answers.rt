@@ -1,0 +1,122 @@
+// The answers that the planner's functions give.
+ghost use mathlib.Core.Path.{_≡_};
+ghost use Rattle.model.specs.Refusals.{refusalNumber};
+use crate::kinds::ChannelMap;
+use crate::kinds::Flow;
+use crate::kinds::FlowSet;
+use crate::kinds::Slot;
+use crate::kinds::Span;
+use crate::kinds::State;
+
+// Why a set, a text, a state or a request is refused.
+pub enum Refusal {
+    Nothing,
+    BadForm,
+    NoChannel,
+    TooManyFlows,
+    BadPeriod,
+    BadDeadline,
+    BadTries,
+    BadRoute,
+    NodeTwice,
+    TooMuchWork,
+    NoRoom,
+    AtLastSlot,
+    BadState,
+    NoSuchFlow,
+}
+
+impl Refusal {
+    // Document 01's number for it; 0 where nothing is refused.
+    pub fn code(self) -> u16
+        ensures { λ r. ⌜ r ≡ refusalNumber self ⌝ }
+    {
+        match self {
+            Refusal::Nothing => 0,
+            Refusal::BadForm => 1,
+            Refusal::NoChannel => 2,
+            Refusal::TooManyFlows => 3,
+            Refusal::BadPeriod => 4,
+            Refusal::BadDeadline => 5,
+            Refusal::BadTries => 6,
+            Refusal::BadRoute => 7,
+            Refusal::NodeTwice => 8,
+            Refusal::TooMuchWork => 9,
+            Refusal::NoRoom => 10,
+            Refusal::AtLastSlot => 11,
+            Refusal::BadState => 12,
+            Refusal::NoSuchFlow => 13,
+        }
+    }
+}
+
+// A refusal with the line it names, 0 where it names none.
+pub struct Fault {
+    pub refusal: Refusal,
+    pub line: u32,
+}
+
+// The reader's answer: the set, or the fault and the blank set.
+pub struct Reading {
+    pub fault: Fault,
+    pub set: FlowSet,
+}
+
+// The writer's answer: how many bytes stand in the lent buffer.
+pub struct Written {
+    pub fault: Fault,
+    pub length: usize,
+}
+
+pub struct Verdict {
+    pub fault: Fault,
+    pub basic: bool,
+    pub tightened: bool,
+    pub rounds: u32,
+}
+
+// One flow's bounds. `work` is C.
+pub struct Bounds {
+    pub fault: Fault,
+    pub work: u32,
+    pub basic: u32,
+    pub tightened: u32,
+    pub deadline: Span,
+    pub margin: i32,
+}
+
+// One transmission: in `slot`, over the link `from` to `to`.
+pub struct Send {
+    pub slot: Slot,
+    pub flow: u16,
+    pub from: u16,
+    pub to: u16,
+    pub attempt: u16,
+    pub offset: u16,
+    pub channel: u16,
+}
+
+pub struct Delivery {
+    pub flow: u16,
+    pub delay: Span,
+}
+
+// A slot's answer. The entries of each array from its count on are blank.
+pub struct Stepped {
+    pub fault: Fault,
+    pub next: State,
+    pub sends: u16,
+    pub sent: [Send; ChannelMap::MOST],
+    pub deliveries: u16,
+    pub delivered: [Delivery; ChannelMap::MOST],
+    pub drops: u16,
+    pub dropped: [u16; Flow::MOST],
+}
+
+// A run's answer: the last state, and how many packets were delivered and dropped.
+pub struct Ran {
+    pub fault: Fault,
+    pub last: State,
+    pub delivered: u64,
+    pub dropped: u64,
+}
