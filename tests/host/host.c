@@ -1,0 +1,307 @@
+/* A C host of the planner: every exported function on good and bad input, short and overlong buffers, every refusal, and P1 to P8 of
+ * document 01 slot by slot from the fresh state. Each lent buffer stands right before, and again right after, a page that may not be
+ * touched, and the bytes around it are compared, since a sanitizer does not see into the archive. */
+#define _DEFAULT_SOURCE
+#include <stdio.h>
+#include <stdlib.h>
+#include <string.h>
+#include <sys/mman.h>
+#include <unistd.h>
+
+#include "rembasuk.h"
+
+static int failures;
+static int checks;
+
+#define CHECK(test)                                                                                                                  \
+    do {                                                                                                                             \
+        checks++;                                                                                                                    \
+        if (!(test)) {                                                                                                               \
+            failures++;                                                                                                              \
+            printf("%s:%d: %s\n", __FILE__, __LINE__, #test);                                                                        \
+        }                                                                                                                            \
+    } while (0)
+
+/* ---- memory at the edge of a forbidden page */
+
+#define FILL 0xA5
+
+/* `size` writable bytes between two pages that may not be touched. */
+typedef struct {
+    uint8_t *base;
+    size_t size;
+} area;
+
+static size_t page(void) { return (size_t)sysconf(_SC_PAGESIZE); }
+
+static area area_new(size_t pages)
+{
+    area a;
+    uint8_t *all = mmap(NULL, (pages + 2) * page(), PROT_NONE, MAP_PRIVATE | MAP_ANONYMOUS, -1, 0);
+    if (all == MAP_FAILED || mprotect(all + page(), pages * page(), PROT_READ | PROT_WRITE) != 0) {
+        perror("mmap");
+        exit(2);
+    }
+    a.base = all + page();
+    a.size = pages * page();
+    memset(a.base, FILL, a.size);
+    return a;
+}
+
+/* The bytes of a length at the area's start (right after a forbidden page) or at its end (right before one), the rest filled. */
+static uint8_t *lend(area a, size_t length, int at_end)
+{
+    memset(a.base, FILL, a.size);
+    return at_end ? a.base + (a.size - length) : a.base;
+}
+
+/* Whether everything in the area outside the lent bytes is as it was. */
+static int untouched(area a, const uint8_t *lent, size_t length)
+{
+    size_t i;
+    for (i = 0; i < a.size; i++) {
+        if (a.base + i >= lent && a.base + i < lent + length) {
+            continue;
+        }
+        if (a.base[i] != FILL) {
+            return 0;
+        }
+    }
+    return 1;
+}
+
+static area text_area, state_area, lines_area;
+
+/* ---- calls with every buffer at an edge */
+
+static rembasuk_verdict_answer verdict_of(const char *text, size_t length, int at_end)
+{
+    uint8_t *t = lend(text_area, length, at_end);
+    rembasuk_verdict_answer v;
+    memcpy(t, text, length);
+    v = rembasuk_verdict(t, length);
+    CHECK(memcmp(t, text, length) == 0 && untouched(text_area, t, length));
+    return v;
+}
+
+static rembasuk_bounds_answer bounds_of(const char *text, size_t length, uint32_t flow, int at_end)
+{
+    uint8_t *t = lend(text_area, length, at_end);
+    rembasuk_bounds_answer b;
+    memcpy(t, text, length);
+    b = rembasuk_bounds(t, length, flow);
+    CHECK(memcmp(t, text, length) == 0 && untouched(text_area, t, length));
+    return b;
+}
+
+/* One slot over copies of `state` and a buffer of `room` bytes; checks that a refusal changes nothing and success nothing but its bytes. */
+static rembasuk_slot_answer slot_of(const char *text, size_t length, uint8_t *state, size_t state_length, char *out, size_t room, int at_end)
+{
+    uint8_t *t = lend(text_area, length, at_end);
+    uint8_t *s = lend(state_area, state_length, at_end);
+    uint8_t *l = lend(lines_area, room, at_end);
+    rembasuk_slot_answer a;
+    size_t i;
+    memcpy(t, text, length);
+    memcpy(s, state, state_length);
+    a = rembasuk_slot(t, length, s, state_length, l, room);
+    CHECK(memcmp(t, text, length) == 0 && untouched(text_area, t, length));
+    CHECK(untouched(state_area, s, state_length) && untouched(lines_area, l, room));
+    if (a.refusal != 0) {
+        CHECK(a.length == 0 && memcmp(s, state, state_length) == 0);
+    }
+    CHECK(a.length <= room);
+    for (i = a.length; i < room; i++) {
+        CHECK(l[i] == FILL);
+    }
+    memcpy(state, s, state_length);
+    if (out != NULL && a.length <= room) {
+        memcpy(out, l, a.length);
+        out[a.length] = 0;
+    }
+    return a;
+}
+
+/* ---- the sets of document 01 */
+
+#define P1 "set\t3\nflow\t10\t8\t0\t1\t1\t2\t3\nflow\t20\t20\t0\t1\t4\t2\t5\n"
+#define P2 "set\t3\nflow\t10\t3\t0\t1\t1\t2\t3\nflow\t20\t20\t0\t1\t4\t2\t5\n"
+#define P4 "set\t15\nflow\t10\t1\t0\t1\t1\t2\nflow\t10\t1\t0\t1\t3\t4\nflow\t10\t1\t0\t1\t5\t6\nflow\t10\t1\t0\t1\t7\t8\n"
+#define P3 P4 "flow\t10\t1\t0\t1\t9\t10\n"
+#define P5 "set\t1\nflow\t10\t2\t0\t1\t1\t2\nflow\t10\t2\t0\t1\t3\t4\n"
+#define P6 P5 "flow\t10\t2\t0\t1\t5\t6\n"
+#define P7 "set\t3\nflow\t10\t10\t0\t1\t1\t2\nflow\t10\t10\t0\t1\t2\t3\nflow\t10\t10\t0\t1\t4\t5\n"
+#define P8 "set\t1\nflow\t10\t4\t0\t2\t1\t2\t3\n"
+#define P9 "set\t1\nflow\t10\t3\t0\t2\t1\t2\t3\n"
+#define P10 "set\t0\n"
+#define P11 "set\t1\nflow\t10\t4\t0\t2\t1\t2\t1\n"
+
+typedef struct {
+    const char *text;
+    uint32_t basic, tightened;
+    uint32_t bounds; /* the flows' bounds, where document 01 gives one for all; 0: not given so */
+    const char *sends; /* the `send` lines of the first slots */
+    int slots;
+} point;
+
+static const point points[] = {
+    {P1, 1, 1, 0,
+     "send\t0\t0\t1\t2\t0\t11\nsend\t1\t0\t2\t3\t0\t12\nsend\t2\t1\t4\t2\t0\t11\nsend\t3\t1\t2\t5\t0\t12\nsend\t10\t0\t1\t2\t0\t11\n"
+     "send\t11\t0\t2\t3\t0\t12\n",
+     12},
+    {P2, 0, 1, 0, "send\t0\t0\t1\t2\t0\t11\nsend\t1\t0\t2\t3\t0\t12\n", 2},
+    {P3, 0, 0, 2, "send\t0\t0\t1\t2\t0\t11\nsend\t0\t1\t3\t4\t0\t12\nsend\t0\t2\t5\t6\t0\t13\nsend\t0\t3\t7\t8\t0\t14\n", 10},
+    {P4, 1, 1, 1, "send\t0\t0\t1\t2\t0\t11\nsend\t0\t1\t3\t4\t0\t12\nsend\t0\t2\t5\t6\t0\t13\nsend\t0\t3\t7\t8\t0\t14\n", 10},
+    {P5, 1, 1, 2, "send\t0\t0\t1\t2\t0\t11\nsend\t1\t1\t3\t4\t0\t11\n", 10},
+    {P6, 0, 0, 3, "send\t0\t0\t1\t2\t0\t11\nsend\t1\t1\t3\t4\t0\t11\n", 10},
+    {P7, 1, 1, 2, "send\t0\t0\t1\t2\t0\t11\nsend\t0\t2\t4\t5\t0\t12\nsend\t1\t1\t2\t3\t0\t12\n", 10},
+    {P8, 1, 1, 4, "send\t0\t0\t1\t2\t0\t11\nsend\t1\t0\t1\t2\t1\t11\nsend\t2\t0\t2\t3\t0\t11\nsend\t3\t0\t2\t3\t1\t11\n", 10},
+};
+
+static void run_point(const point *p, int at_end)
+{
+    uint8_t state[REMBASUK_STATE_LENGTH] = {0};
+    char all[4096] = "", out[4096];
+    int t;
+    size_t length = strlen(p->text);
+    rembasuk_verdict_answer v = verdict_of(p->text, length, at_end);
+    CHECK(v.refusal == 0 && v.line == 0 && v.basic == p->basic && v.tightened == p->tightened && v.rounds > 0);
+    if (p->bounds != 0) {
+        rembasuk_bounds_answer b = bounds_of(p->text, length, 0, at_end);
+        CHECK(b.refusal == 0 && b.basic == p->bounds && b.tightened == p->bounds);
+        CHECK(b.margin == (int32_t)b.deadline - (int32_t)b.tightened);
+    }
+    for (t = 0; t < p->slots; t++) {
+        rembasuk_slot_answer a = slot_of(p->text, length, state, sizeof state, out, 512, at_end);
+        CHECK(a.refusal == 0 && a.line == 0);
+        strcat(all, out);
+        CHECK(state[0] == t + 1 && state[1] == 0 && state[2] == 0 && state[3] == 0);
+    }
+    CHECK(strcmp(all, p->sends) == 0);
+}
+
+static void p1_bounds(int at_end)
+{
+    rembasuk_bounds_answer a = bounds_of(P1, strlen(P1), 0, at_end), b = bounds_of(P1, strlen(P1), 1, at_end);
+    CHECK(a.work == 2 && a.basic == 4 && a.tightened == 2 && a.deadline == 8 && a.margin == 6);
+    CHECK(b.work == 2 && b.basic == 6 && b.tightened == 6 && b.deadline == 20 && b.margin == 14);
+    CHECK(verdict_of(P1, strlen(P1), at_end).rounds == 3);
+    CHECK(bounds_of(P3, strlen(P3), 4, at_end).margin == -1);
+}
+
+/* ---- refusals */
+
+static void refused_text(const char *text, size_t length, uint32_t number, uint32_t line, int at_end)
+{
+    uint8_t state[REMBASUK_STATE_LENGTH] = {0}, odd[3] = {1, 2, 3};
+    rembasuk_verdict_answer v = verdict_of(text, length, at_end);
+    rembasuk_bounds_answer b = bounds_of(text, length, 99, at_end);
+    rembasuk_slot_answer s = slot_of(text, length, state, sizeof state, NULL, 64, at_end);
+    CHECK(v.refusal == number && v.line == line && !v.basic && !v.tightened && !v.rounds);
+    CHECK(b.refusal == number && b.line == line && !b.work && !b.basic && !b.tightened && !b.deadline && !b.margin);
+    CHECK(s.refusal == number && s.line == line);
+    /* the text is read before anything else is tested */
+    s = slot_of(text, length, odd, sizeof odd, NULL, 0, at_end);
+    CHECK(s.refusal == number && s.line == line);
+}
+
+static void refused_texts(int at_end)
+{
+    static char many[16384];
+    int i;
+    refused_text("", 0, 1, 1, at_end);
+    refused_text("set\t3", 5, 1, 1, at_end);
+    refused_text("set\t03\n", 7, 1, 1, at_end);
+    refused_text("set\t3\n\n", 7, 1, 2, at_end);
+    refused_text("set\t3\n\0\n", 8, 1, 2, at_end);
+    refused_text(P10, strlen(P10), 2, 1, at_end);
+    refused_text("set\t3\nflow\t0\t0\t0\t0\n", 20, 4, 2, at_end);
+    refused_text("set\t3\nflow\t5\t6\t0\t0\n", 20, 5, 2, at_end);
+    refused_text("set\t3\nflow\t5\t5\t0\t5\n", 20, 6, 2, at_end);
+    refused_text("set\t3\nflow\t5\t5\t0\t1\n", 20, 7, 2, at_end);
+    refused_text(P11, strlen(P11), 8, 2, at_end);
+    refused_text(P9, strlen(P9), 9, 2, at_end);
+    strcpy(many, "set\t1\n");
+    for (i = 0; i < 65; i++) {
+        strcat(many, "flow\t100\t100\t0\t1\t1\t2\n");
+    }
+    refused_text(many, strlen(many), 3, 66, at_end);
+}
+
+static void put_slot(uint8_t *state, uint32_t t)
+{
+    int i;
+    memset(state, 0, REMBASUK_STATE_LENGTH);
+    for (i = 0; i < 4; i++) {
+        state[i] = (uint8_t)(t >> (8 * i));
+    }
+}
+
+static uint32_t slot_refusal(uint8_t *state, size_t state_length, size_t room, int at_end)
+{
+    return slot_of(P1, strlen(P1), state, state_length, NULL, room, at_end).refusal;
+}
+
+static void refused_slots(int at_end)
+{
+    uint8_t state[REMBASUK_STATE_LENGTH + 1] = {0};
+    size_t need = strlen("send\t0\t0\t1\t2\t0\t11\n");
+    CHECK(slot_refusal(state, REMBASUK_STATE_LENGTH - 1, 64, at_end) == 12);
+    CHECK(slot_refusal(state, REMBASUK_STATE_LENGTH + 1, 64, at_end) == 12);
+    CHECK(slot_refusal(state, 0, 0, at_end) == 12);
+    CHECK(slot_refusal(state, REMBASUK_STATE_LENGTH, need - 1, at_end) == 10);
+    CHECK(slot_refusal(state, REMBASUK_STATE_LENGTH, 0, at_end) == 10);
+    CHECK(slot_refusal(state, REMBASUK_STATE_LENGTH, need, at_end) == 0 && state[0] == 1 && state[4] == 1);
+    put_slot(state, 4000000001u);
+    CHECK(slot_refusal(state, REMBASUK_STATE_LENGTH, 0, at_end) == 12);
+    put_slot(state, 4000000000u);
+    CHECK(slot_refusal(state, REMBASUK_STATE_LENGTH, 0, at_end) == 11);
+    state[4] = 3; /* above C */
+    CHECK(slot_refusal(state, REMBASUK_STATE_LENGTH, 0, at_end) == 12);
+    put_slot(state, 5);
+    state[6] = 1; /* beyond the last flow */
+    CHECK(slot_refusal(state, REMBASUK_STATE_LENGTH, 64, at_end) == 12);
+    put_slot(state, 3999999999u);
+    CHECK(slot_refusal(state, REMBASUK_STATE_LENGTH, 512, at_end) == 0);
+    CHECK(state[0] == 0x00 && state[1] == 0x28 && state[2] == 0x6b && state[3] == 0xee);
+    put_slot(state, 9); /* an idle slot needs no room: both packets have had all */
+    state[4] = 2;
+    state[5] = 2;
+    CHECK(slot_refusal(state, REMBASUK_STATE_LENGTH, 0, at_end) == 0 && state[0] == 10);
+    CHECK(bounds_of(P1, strlen(P1), 2, at_end).refusal == 13);
+    CHECK(bounds_of(P1, strlen(P1), 0xffffffffu, at_end).refusal == 13);
+}
+
+static void empty_buffers(void)
+{
+    uint8_t state[REMBASUK_STATE_LENGTH] = {0};
+    rembasuk_verdict_answer v = rembasuk_verdict(NULL, 0);
+    rembasuk_slot_answer s;
+    CHECK(v.refusal == 1 && v.line == 1);
+    s = rembasuk_slot((const uint8_t *)"set\t1\n", 6, state, sizeof state, NULL, 0);
+    CHECK(s.refusal == 0 && s.length == 0 && state[0] == 1);
+    s = rembasuk_slot((const uint8_t *)"set\t1\n", 6, NULL, 0, NULL, 0);
+    CHECK(s.refusal == 12);
+    v = rembasuk_verdict((const uint8_t *)"set\t1\n", 6);
+    CHECK(v.refusal == 0 && v.basic == 1 && v.tightened == 1 && v.rounds == 1);
+}
+
+int main(void)
+{
+    int at_end;
+    size_t i;
+    text_area = area_new(5);
+    state_area = area_new(1);
+    lines_area = area_new(1);
+    for (at_end = 0; at_end < 2; at_end++) {
+        for (i = 0; i < sizeof points / sizeof points[0]; i++) {
+            run_point(&points[i], at_end);
+        }
+        p1_bounds(at_end);
+        refused_texts(at_end);
+        refused_slots(at_end);
+    }
+    empty_buffers();
+    printf("host: %d checks, %d failed\n", checks, failures);
+    return failures != 0;
+}

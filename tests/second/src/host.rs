@@ -1,0 +1,87 @@
+//! Document 01, "What is planned, and from what": what the manager's host program in C calls, with the set as text.
+//! The text is read before anything else is tested, with the reader's refusals.
+
+use crate::delay::{bound, verdict, Bound, Verdict};
+use crate::machine::{Machine, Slot};
+use crate::read::read;
+use crate::record::{Refusal, State, MOST_FLOWS};
+use crate::write::{lend, put_line, Written};
+
+/// A state's bytes: the slot in four, then one count for each of 64 flows.
+pub const STATE_BYTES: usize = 4 + MOST_FLOWS;
+
+/// The verdict on a text.
+pub fn verdict_of_text(text: &[u8]) -> Verdict {
+    let read = read(text);
+    if read.refusal.refuses() {
+        return Verdict { refusal: read.refusal, ..Verdict::default() };
+    }
+    verdict(&read.set)
+}
+
+/// The bounds of the flow of that number in a text.
+pub fn bound_of_text(text: &[u8], flow: u32) -> Bound {
+    let read = read(text);
+    if read.refusal.refuses() {
+        return Bound { refusal: read.refusal, ..Bound::default() };
+    }
+    bound(&read.set, flow)
+}
+
+/// The C step: writes the next state into the 68 bytes and the slot's `send` lines into the second buffer, whose
+/// further bytes stay. Refusals in document 01's order: the text's, 12 (also for a length other than 68), 11, 10;
+/// refused, it leaves both buffers alone.
+pub fn step_of_text(text: &[u8], state: &mut [u8], buffer: &mut [u8]) -> Written {
+    let read = read(text);
+    let mut machine = match Machine::new(&read.set) {
+        Ok(machine) if !read.refusal.refuses() => machine,
+        _ => return Written { refusal: read.refusal, bytes: 0 },
+    };
+    step_of_bytes(&mut machine, state, buffer)
+}
+
+/// The C step once the text is read: 12, 11, 10, and only then the two buffers.
+fn step_of_bytes(machine: &mut Machine, state: &mut [u8], buffer: &mut [u8]) -> Written {
+    let Some(mut next) = state_of_bytes(state) else {
+        return Written { refusal: Refusal::at(12, 0), bytes: 0 };
+    };
+    let (t, mut slot) = (next.slot, Slot::default());
+    let refusal = machine.step(&mut next, &mut slot);
+    if refusal.refuses() {
+        return Written { refusal, bytes: 0 };
+    }
+    let mut lines = Vec::new();
+    put_sends(&mut lines, t, &slot);
+    let written = lend(&lines, buffer);
+    if !written.refusal.refuses() {
+        state.copy_from_slice(&bytes_of_state(&next));
+    }
+    written
+}
+
+/// The `send` lines of a slot: slot, flow, from, to, try, radio channel.
+pub fn put_sends(text: &mut Vec<u8>, t: u32, slot: &Slot) {
+    for sent in &slot.sends {
+        let (flow, from, to) = (i64::from(sent.flow), i64::from(sent.from), i64::from(sent.to));
+        put_line(text, b"send", &[i64::from(t), flow, from, to, i64::from(sent.attempt), i64::from(sent.channel)]);
+    }
+}
+
+/// The state that 68 bytes stand for: the slot lowest byte first, then the counts. None for any other length.
+pub fn state_of_bytes(bytes: &[u8]) -> Option<State> {
+    let bytes: &[u8; STATE_BYTES] = bytes.try_into().ok()?;
+    let mut state = State::FRESH;
+    for (place, &byte) in bytes[..4].iter().enumerate() {
+        state.slot |= u32::from(byte) << (8 * place);
+    }
+    state.sent.copy_from_slice(&bytes[4..]);
+    Some(state)
+}
+
+/// The 68 bytes of a state.
+pub fn bytes_of_state(state: &State) -> [u8; STATE_BYTES] {
+    let mut bytes = [0; STATE_BYTES];
+    bytes[..4].copy_from_slice(&state.slot.to_le_bytes());
+    bytes[4..].copy_from_slice(&state.sent);
+    bytes
+}

@@ -1,0 +1,231 @@
+//! Texts: good ones, ones with chosen faults in one line, and ones with stray bytes.
+
+use super::{sets, Rng};
+use crate::record::{Flow, Refusal, Set, MOST_FLOWS, MOST_NODES};
+use crate::write::text_of;
+
+/// A text with faults put into one line, and the refusal they ask for: the lowest of them at that line.
+#[derive(Clone, Debug)]
+pub struct Damaged {
+    /// The text.
+    pub text: Vec<u8>,
+    /// What the reader must answer.
+    pub refusal: Refusal,
+}
+
+/// Every choice of one or two faults that a line can have: 1 and 2 for the first line, all but 2 for a flow's line.
+/// Two equal numbers stand for the fault alone.
+pub fn pairs() -> Vec<[u8; 2]> {
+    let mut pairs = vec![[2, 2], [1, 2]];
+    for low in [1, 3, 4, 5, 6, 7, 8, 9] {
+        for high in low..=9 {
+            if high != 2 {
+                pairs.push([low, high]);
+            }
+        }
+    }
+    pairs
+}
+
+/// The text of a good set.
+pub fn good(rng: &mut Rng) -> Vec<u8> {
+    text_of(&sets::any(rng))
+}
+
+/// A text whose first faulty line has these faults (one of `pairs`).
+pub fn damaged(rng: &mut Rng, faults: [u8; 2]) -> Damaged {
+    let set = if faults.contains(&3) { crowd(rng) } else { sets::any(rng) };
+    let first = faults[1] == 2 || faults == [1, 1] && rng.once_in(4);
+    let before = match (first, faults.contains(&3)) {
+        (true, _) => 0,
+        (_, true) => MOST_FLOWS + 1,
+        _ => 1 + rng.below(usize::from(set.count).min(MOST_FLOWS - 1) + 1),
+    };
+    let lines = lines_of(&set);
+    let mut text = lines[..before].concat();
+    let line = if first { first_line(rng, faults) } else { flow_line(rng, faults) };
+    let ended = line.last() == Some(&b'\n');
+    text.extend_from_slice(&line);
+    if ended && rng.once_in(2) {
+        text.extend_from_slice(&lines[rng.below(lines.len())..].concat());
+        text.extend_from_slice(rng.pick(&[&b""[..], b"\n", b"set\t0\n", b"flow\t0", b"x"]));
+    }
+    Damaged { text, refusal: Refusal::at(faults[0].min(faults[1]), before as u8 + 1) }
+}
+
+/// A set of 64 flows, short ones, so that a 65th line can follow.
+fn crowd(rng: &mut Rng) -> Set {
+    let shape = sets::Shape {
+        flows: (MOST_FLOWS, MOST_FLOWS),
+        channels: (1, 16),
+        nodes: (2, 3),
+        pool: 50,
+        tries: 1,
+        periods: (2, 99),
+        start: 9,
+    };
+    sets::draw(rng, &shape)
+}
+
+/// The lines of a set's text, each with its LF.
+fn lines_of(set: &Set) -> Vec<Vec<u8>> {
+    text_of(set).split_inclusive(|&byte| byte == b'\n').map(<[u8]>::to_vec).collect()
+}
+
+/// A first line with fault 1, 2 or both.
+fn first_line(rng: &mut Rng, faults: [u8; 2]) -> Vec<u8> {
+    let map = if faults[1] == 2 { 0 } else { rng.within(1, 65_535) };
+    let line = format!("set\t{map}\n").into_bytes();
+    match (faults[0], rng.below(4)) {
+        (1, 0) => [&line[..line.len() - 1], rng.pick(&[&b"\t1\n"[..], b"\t0\n", b"\t\n"])].concat(),
+        (1, 1) if faults[1] == 1 => rng.pick(&[&b""[..], b"\n", b"set", b"set\n", b"set\t", b"set\t\n"]).to_vec(),
+        (1, _) => misform(rng, line, faults == [1, 1]),
+        _ => line,
+    }
+}
+
+/// A flow's line with these faults and none lower than the lowest of them.
+fn flow_line(rng: &mut Rng, faults: [u8; 2]) -> Vec<u8> {
+    let has = |fault| faults.contains(&fault);
+    let (flow, route) = draft(rng, faults);
+    let mut line = b"flow".to_vec();
+    let head = [flow.period, flow.deadline, flow.start, flow.tries];
+    for number in head.iter().chain(&route) {
+        line.extend_from_slice(format!("\t{number}").as_bytes());
+    }
+    line.push(b'\n');
+    if !has(1) {
+        return line;
+    }
+    if faults == [1, 1] && rng.once_in(4) {
+        return shorten(rng, &line);
+    }
+    misform(rng, line, faults == [1, 1])
+}
+
+/// Tries and route of a line with these faults of 6 to 8.
+fn way(rng: &mut Rng, faults: [u8; 2]) -> (usize, Vec<u16>) {
+    let has = |fault| faults.contains(&fault);
+    let tries = match rng.below(3) {
+        _ if !has(6) => rng.within(1, 4),
+        0 if !has(9) => 0,
+        1 => 5,
+        _ => rng.within(5, 65_535),
+    };
+    let nodes = match rng.below(3) {
+        _ if !has(7) => rng.within(3, MOST_NODES),
+        0 if !has(8) && !has(9) => rng.below(2),
+        1 => MOST_NODES + 1,
+        _ => rng.within(MOST_NODES + 1, 60),
+    };
+    let mut route: Vec<u16> = (0..nodes).map(|i| (i * 1000 + rng.below(1000)) as u16).collect();
+    if has(8) {
+        let later = rng.within(1, nodes - 1);
+        route[later] = route[rng.below(later)];
+    }
+    (tries, route)
+}
+
+/// The numbers of a line with these faults of 4 to 9. Each is put in so that it undoes none before: tries and route,
+/// then the deadline below C, then the deadline above the period or 0, then the period 0.
+fn draft(rng: &mut Rng, faults: [u8; 2]) -> (Flow, Vec<u16>) {
+    let has = |fault| faults.contains(&fault);
+    let (tries, route) = way(rng, faults);
+    let c = route.len().saturating_sub(1) * tries;
+    let period = rng.within(c.clamp(2, 60_000), 65_534);
+    let deadline = if has(9) { rng.within(1, period.min(c - 1)) } else { rng.within(c.clamp(1, period), period) };
+    let start = rng.word();
+    let mut flow = Flow { period: period as u16, deadline: deadline as u16, start, ..Flow::default() };
+    flow.tries = tries as u16;
+    if has(5) {
+        flow.deadline = match rng.below(2) {
+            0 if !has(9) => flow.period + 1,
+            0 if c > 2 => {
+                flow.period = 1;
+                c as u16 - 1
+            }
+            _ => 0,
+        };
+    }
+    if has(4) {
+        flow.period = 0;
+    }
+    (flow, route)
+}
+
+/// Damages a line's form: a wrong word, a bad number, stray bytes, or no LF. All its numbers stay, for a second fault
+/// to be there still, unless this is to be the only one.
+fn misform(rng: &mut Rng, line: Vec<u8>, only: bool) -> Vec<u8> {
+    let body = &line[..line.len() - 1];
+    let rest = &body[body.iter().position(|&byte| byte == b'\t').unwrap_or(0)..];
+    let last = body.len() - body.iter().rev().position(|&byte| byte == b'\t').unwrap_or(0);
+    match rng.below(7) {
+        0 if rng.once_in(3) => [if line[0] == b's' { "flow" } else { "set" }.as_bytes(), rest, b"\n"].concat(),
+        0 => [rng.pick(&WORDS).as_bytes(), rest, b"\n"].concat(),
+        1 if only => [&body[..last], rng.pick(&BAD_NUMBERS).as_bytes(), b"\n"].concat(),
+        1 | 2 => [body, b"\t", rng.pick(&BAD_NUMBERS).as_bytes(), b"\n"].concat(),
+        3 => [body, rng.pick(&["\r", "\t", " ", "\t\t1", ",1", "\0"]).as_bytes(), b"\n"].concat(),
+        4 => [rng.pick(&["\t", " ", "\n", "\u{feff}"]).as_bytes(), body, b"\n"].concat(),
+        5 => [b"\n", &line[..]].concat(),
+        _ => body.to_vec(),
+    }
+}
+
+/// Words that no line has.
+const WORDS: [&str; 9] = ["", "f", "se", "flows", "FLOW", "Set", "flow ", "sets", "s\tet"];
+
+/// What is no number.
+const BAD_NUMBERS: [&str; 15] = [
+    "",
+    "00",
+    "07",
+    "007",
+    "65536",
+    "99999",
+    "100000",
+    "4294967297",
+    "-1",
+    "+1",
+    "1 ",
+    " 1",
+    "0x1",
+    "1a",
+    "9999999999999999999999999999999999999999",
+];
+
+/// A line cut to fewer than four numbers.
+fn shorten(rng: &mut Rng, line: &[u8]) -> Vec<u8> {
+    let fields: Vec<&[u8]> = line[..line.len() - 1].split(|&byte| byte == b'\t').collect();
+    [&fields[..rng.within(1, 4)].join(&b'\t')[..], b"\n"].concat()
+}
+
+/// A good text with a few bytes changed, lost or added anywhere: mostly refused, sometimes not.
+pub fn stray(rng: &mut Rng) -> Vec<u8> {
+    let mut text = good(rng);
+    for _ in 0..rng.within(1, 3) {
+        let at = rng.below(text.len());
+        let byte = rng.pick(b"\t\n0123456789flowset\r \x00\xff-");
+        match rng.below(4) {
+            0 => text[at] = byte,
+            1 => text.insert(at, byte),
+            2 => text.truncate(at),
+            _ => drop(text.remove(at)),
+        }
+        if text.is_empty() {
+            break;
+        }
+    }
+    text
+}
+
+/// A text of any of these kinds.
+pub fn any(rng: &mut Rng) -> Vec<u8> {
+    match rng.below(4) {
+        0 => good(rng),
+        1 => stray(rng),
+        _ => {
+            let faults = rng.pick(&pairs());
+            damaged(rng, faults).text
+        }
+    }
+}

@@ -1,0 +1,28 @@
+//! The second planner: document 01 written once more from its words alone, plainly, to be compared with the proved
+//! planner and to measure its speed by. Nothing here is shared with the planner under test.
+//!
+//! One section of document 01 stands in one module: the flow set in [`record`], refusals in [`check`] and [`read`],
+//! the writer in [`write`], the two delay tests in [`delay`], the slot machine in [`machine`], what C sees in
+//! [`host`], the plan program in [`plan`]. [`inputs`] draws sets, texts, records and states from a seed, and
+//! [`slip`] keeps the wrong rules that the tests must catch.
+#![forbid(unsafe_code)]
+#![warn(missing_docs)]
+
+pub mod check;
+pub mod delay;
+pub mod host;
+pub mod inputs;
+pub mod machine;
+pub mod plan;
+pub mod read;
+pub mod record;
+pub mod slip;
+pub mod write;
+
+pub use check::check;
+pub use delay::{bound, verdict, Bound, Delays, Planner, Verdict};
+pub use machine::{step, Delivered, Machine, Slot, Step, Transmission};
+pub use plan::plan;
+pub use read::{read, Read};
+pub use record::{same, Flow, Refusal, Set, State};
+pub use write::{write, Written};

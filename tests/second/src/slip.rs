@@ -1,0 +1,92 @@
+//! Wrong rules, put in one at a time: the tests of the tests. Document 01's "Easy slips", then what its first section
+//! says "this paper decides". A slip is a constant of the types [`PlannerWith`] and
+//! [`MachineWith`](crate::machine::MachineWith), so the right rules ([`NONE`]) pay nothing for them.
+
+use crate::delay::PlannerWith;
+use crate::record::{Flow, MOST_FLOWS};
+
+/// No slip: document 01's rules.
+pub const NONE: u8 = 0;
+/// Each flow's contention share is divided by m before adding.
+pub const DIVIDE_EACH: u8 = 1;
+/// A slot's choice ends at the first packet passed over.
+pub const END_AT_PASSED: u8 = 2;
+/// S counts only links that both routes have.
+pub const COMMON_LINKS: u8 = 3;
+/// One packet of l too few in a window that ends at l's deadline.
+pub const PACKET_TOO_FEW: u8 = 4;
+/// r − (D − v) may go below 0.
+pub const BELOW_ZERO: u8 = 5;
+/// The same in another shape: the window ends one slot before l's deadline.
+pub const SHORT_WINDOW: u8 = 13;
+/// Equal deadlines: the higher flow number goes first.
+pub const HIGHER_FIRST: u8 = 6;
+/// Entries of the list may rise above the deadline.
+pub const NO_CLAMP: u8 = 7;
+/// The rounds stop as soon as the set is schedulable.
+pub const STOP_WHEN_ADMITTED: u8 = 8;
+/// A round uses the entries of the round before.
+pub const OLD_ENTRIES: u8 = 9;
+/// A packet is still ready in the slot of its absolute deadline.
+pub const KEEP_LATE: u8 = 10;
+/// The state's count is believed in a release slot.
+pub const KEEP_COUNT: u8 = 11;
+/// The radio channel is the one at place offset, whatever the slot.
+pub const STILL_CHANNELS: u8 = 12;
+
+/// Whether a slip is one of the equation's.
+pub(crate) const fn changes_value(slip: u8) -> bool {
+    matches!(slip, DIVIDE_EACH | PACKET_TOO_FEW | SHORT_WINDOW | BELOW_ZERO)
+}
+
+/// The equation's value with a slip in it, in signed numbers and one flow after the other.
+pub(crate) fn value<const SLIP: u8>(planner: &PlannerWith<SLIP>, k: usize, v: &[i64; MOST_FLOWS]) -> u32 {
+    let (other, m) = (&planner.others[k], i64::from(planner.m));
+    let (mut x, mut contention) = (0, 0);
+    for (l, entry) in v.iter().enumerate() {
+        let (c, s) = (i64::from(planner.c[l]), i64::from(other.s[l]));
+        let (mut q, mut r) = (i64::from(other.quotient[l]), i64::from(other.remainder[l]));
+        match SLIP {
+            PACKET_TOO_FEW if r == 0 => q = (q - 1).max(0),
+            SHORT_WINDOW if r == 0 && q > 0 => (q, r) = (q - 1, i64::from(planner.deadline[k]) / q - 1),
+            SHORT_WINDOW => r -= 1,
+            _ => {}
+        }
+        let slack = i64::from(planner.deadline[l]) - entry;
+        let rest = if SLIP == BELOW_ZERO { r - slack } else { (r - slack).max(0) };
+        let (whole, conflict) = (q * c + c.min(rest), q * s + s.min(rest));
+        x += conflict;
+        contention += if SLIP == DIVIDE_EACH { (whole - conflict) / m } else { whole - conflict };
+    }
+    let contention = if SLIP == DIVIDE_EACH { contention } else { contention / m };
+    (i64::from(planner.c[k]) + x + contention).max(0) as u32
+}
+
+/// The values at a list whose entries follow the equation above the deadline too; it may never settle, so it is cut.
+pub(crate) fn unclamped<const SLIP: u8>(planner: &PlannerWith<SLIP>) -> [u32; MOST_FLOWS] {
+    let mut v = planner.deadline.map(i64::from);
+    for _ in 0..100 {
+        for k in 0..planner.count {
+            v[k] = i64::from(value(planner, k, &v));
+        }
+    }
+    v.map(|entry| entry as u32)
+}
+
+/// Whether every value at a list is at most its deadline.
+pub(crate) fn admitted<const SLIP: u8>(planner: &PlannerWith<SLIP>, v: &[u16; MOST_FLOWS]) -> bool {
+    (0..planner.count).all(|k| planner.value(k, v) <= u32::from(planner.deadline[k]))
+}
+
+/// S of every pair, counting only links that both routes have.
+pub(crate) fn common_links(flows: &[Flow]) -> Vec<[u16; MOST_FLOWS]> {
+    let has = |flow: &Flow, link: &[u16]| flow.used().windows(2).any(|own| own == link || own == [link[1], link[0]]);
+    let mut s = vec![[0; MOST_FLOWS]; flows.len()];
+    for (k, row) in s.iter_mut().enumerate() {
+        for (l, flow) in flows.iter().enumerate().filter(|&(l, _)| l != k) {
+            let common = flow.used().windows(2).filter(|link| has(&flows[k], link)).count();
+            row[l] = flow.tries * common as u16;
+        }
+    }
+    s
+}

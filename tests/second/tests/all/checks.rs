@@ -1,0 +1,347 @@
+//! The checks. Each takes the rules to try and hands back what it found wrong: nothing for the right rules, something
+//! for every slip that it can catch.
+
+use crate::definition::{self, Equation};
+use second::delay::{Delays, PlannerWith};
+use second::inputs::{records, sets, Rng};
+use second::machine::MachineWith;
+use second::plan::print;
+use second::slip;
+use second::{read, Flow, Refusal, Set, Slot, State};
+
+/// The rules to try: a planner's and a machine's, either with a slip in it.
+#[derive(Clone, Copy)]
+pub struct Rules {
+    pub delays: fn(&Set) -> Delays,
+    pub machine: fn(&Set) -> Box<dyn Steps>,
+}
+
+/// A machine with whatever rules.
+pub trait Steps {
+    fn judge(&self, state: &State) -> Refusal;
+    fn step(&mut self, state: &mut State, slot: &mut Slot) -> Refusal;
+}
+
+impl<const SLIP: u8> Steps for MachineWith<SLIP> {
+    fn judge(&self, state: &State) -> Refusal {
+        self.judge(state)
+    }
+
+    fn step(&mut self, state: &mut State, slot: &mut Slot) -> Refusal {
+        self.step(state, slot)
+    }
+}
+
+/// Document 01's rules.
+pub const RIGHT: Rules = Rules { delays: delays::<{ slip::NONE }>, machine: machine::<{ slip::NONE }> };
+
+/// A slip in the planner.
+pub fn planner_slip<const SLIP: u8>() -> Rules {
+    Rules { delays: delays::<SLIP>, ..RIGHT }
+}
+
+/// A slip in the machine.
+pub fn machine_slip<const SLIP: u8>() -> Rules {
+    Rules { machine: machine::<SLIP>, ..RIGHT }
+}
+
+fn delays<const SLIP: u8>(set: &Set) -> Delays {
+    PlannerWith::<SLIP>::new(set).map_err(|refusal| format!("{refusal:?}")).unwrap().delays()
+}
+
+fn machine<const SLIP: u8>(set: &Set) -> Box<dyn Steps> {
+    Box::new(MachineWith::<SLIP>::new(set).map_err(|refusal| format!("{refusal:?}")).unwrap())
+}
+
+/// Nothing wrong, or what is.
+pub type Found = Result<(), String>;
+
+/// Fails with the words where the claim is false.
+pub fn claim(holds: bool, words: impl FnOnce() -> String) -> Found {
+    if holds {
+        Ok(())
+    } else {
+        Err(words())
+    }
+}
+
+/// The set of a text that the reader accepts.
+pub fn set_of(text: &str) -> Set {
+    let read = read(text.as_bytes());
+    assert!(!read.refusal.refuses(), "{:?} of {text}", read.refusal);
+    read.set
+}
+
+/// One of document 01's sets on either side of a line.
+pub struct Paper {
+    pub name: &'static str,
+    pub text: &'static str,
+    pub admits: [bool; 2],
+    pub basic: &'static [u32],
+    pub tightened: &'static [u32],
+    /// The flows that each slot from 0 sends, by offset, and the flows it drops.
+    pub slots: &'static [(&'static [u8], &'static [u8])],
+}
+
+pub const P1_TEXT: &str = "set\t3\nflow\t10\t8\t0\t1\t1\t2\t3\nflow\t20\t20\t0\t1\t4\t2\t5\n";
+
+pub const P1_PLAN: &str = "verdict\t1\t1\t3
+bound\t0\t2\t4\t2\t8\t6
+bound\t1\t2\t6\t6\t20\t14
+send\t0\t0\t1\t2\t0\t11
+send\t1\t0\t2\t3\t0\t12
+send\t2\t1\t4\t2\t0\t11
+send\t3\t1\t2\t5\t0\t12
+send\t10\t0\t1\t2\t0\t11
+send\t11\t0\t2\t3\t0\t12
+";
+
+pub const P8_TEXT: &str = "set\t1\nflow\t10\t4\t0\t2\t1\t2\t3\n";
+
+pub const PAPER: [Paper; 8] = [
+    Paper {
+        name: "P1",
+        text: P1_TEXT,
+        admits: [true, true],
+        basic: &[4, 6],
+        tightened: &[2, 6],
+        slots: &[(&[0], &[]), (&[0], &[]), (&[1], &[]), (&[1], &[]), (&[], &[])],
+    },
+    Paper {
+        name: "P2",
+        text: "set\t3\nflow\t10\t3\t0\t1\t1\t2\t3\nflow\t20\t20\t0\t1\t4\t2\t5\n",
+        admits: [false, true],
+        basic: &[4, 6],
+        tightened: &[2, 6],
+        slots: &[(&[0], &[]), (&[0], &[]), (&[1], &[]), (&[1], &[])],
+    },
+    Paper {
+        name: "P3",
+        text: "set\t15\nflow\t10\t1\t0\t1\t1\t2\nflow\t10\t1\t0\t1\t3\t4\nflow\t10\t1\t0\t1\t5\t6\n\
+               flow\t10\t1\t0\t1\t7\t8\nflow\t10\t1\t0\t1\t9\t10\n",
+        admits: [false, false],
+        basic: &[2; 5],
+        tightened: &[2; 5],
+        slots: &[(&[0, 1, 2, 3], &[4]), (&[], &[])],
+    },
+    Paper {
+        name: "P4",
+        text: "set\t15\nflow\t10\t1\t0\t1\t1\t2\nflow\t10\t1\t0\t1\t3\t4\nflow\t10\t1\t0\t1\t5\t6\n\
+               flow\t10\t1\t0\t1\t7\t8\n",
+        admits: [true, true],
+        basic: &[1; 4],
+        tightened: &[1; 4],
+        slots: &[(&[0, 1, 2, 3], &[]), (&[], &[])],
+    },
+    Paper {
+        name: "P5",
+        text: "set\t1\nflow\t10\t2\t0\t1\t1\t2\nflow\t10\t2\t0\t1\t3\t4\n",
+        admits: [true, true],
+        basic: &[2, 2],
+        tightened: &[2, 2],
+        slots: &[(&[0], &[]), (&[1], &[]), (&[], &[])],
+    },
+    Paper {
+        name: "P6",
+        text: "set\t1\nflow\t10\t2\t0\t1\t1\t2\nflow\t10\t2\t0\t1\t3\t4\nflow\t10\t2\t0\t1\t5\t6\n",
+        admits: [false, false],
+        basic: &[3, 3, 3],
+        tightened: &[3, 3, 3],
+        slots: &[(&[0], &[]), (&[1], &[2]), (&[], &[])],
+    },
+    Paper {
+        name: "P7",
+        text: "set\t3\nflow\t10\t10\t0\t1\t1\t2\nflow\t10\t10\t0\t1\t2\t3\nflow\t10\t10\t0\t1\t4\t5\n",
+        admits: [true, true],
+        basic: &[2, 2, 2],
+        tightened: &[2, 2, 2],
+        slots: &[(&[0, 2], &[]), (&[1], &[]), (&[], &[])],
+    },
+    Paper {
+        name: "P8",
+        text: P8_TEXT,
+        admits: [true, true],
+        basic: &[4],
+        tightened: &[4],
+        slots: &[(&[0], &[]), (&[0], &[]), (&[0], &[]), (&[0], &[]), (&[], &[])],
+    },
+];
+
+/// P1 to P8 and the plan; P9 to P11 are refusals, which no slip touches.
+pub fn paper(rules: Rules) -> Found {
+    let first = set_of(P1_TEXT);
+    let mut machine = (rules.machine)(&first);
+    let plan = print(&(rules.delays)(&first), |state, slot| {
+        machine.step(state, slot);
+    });
+    claim(plan == P1_PLAN.as_bytes(), || format!("the plan is {}", String::from_utf8_lossy(&plan)))?;
+    for p in &PAPER {
+        let set = set_of(p.text);
+        let delays = (rules.delays)(&set);
+        let verdict = delays.verdict();
+        claim([verdict.basic, verdict.tightened] == p.admits, || format!("{}: {verdict:?}", p.name))?;
+        let bounds = (&delays.basic[..delays.count], &delays.tightened[..delays.count]);
+        claim(bounds == (p.basic, p.tightened), || format!("{}: {bounds:?}", p.name))?;
+        let (mut machine, mut state, mut slot) = ((rules.machine)(&set), State::FRESH, Slot::default());
+        for (sends, drops) in p.slots {
+            machine.step(&mut state, &mut slot);
+            let flows: Vec<u8> = slot.sends.iter().map(|sent| sent.flow).collect();
+            claim(flows == *sends && slot.dropped == *drops, || format!("{}: {slot:?}", p.name))?;
+        }
+    }
+    Ok(())
+}
+
+/// The tightened bounds of tiny sets against the greatest list found by trying all lists.
+pub fn greatest(rules: Rules, seed: u64, draws: usize) -> Found {
+    let mut rng = Rng::new(seed);
+    for _ in 0..draws {
+        let set = sets::tiny(&mut rng);
+        let equation = Equation::of(&set);
+        let list = equation.greatest().ok_or_else(|| format!("no greatest list of {:?}", set.used()))?;
+        let wanted = equation.values(&list);
+        let delays = (rules.delays)(&set);
+        let bounds: Vec<i64> = delays.tightened[..delays.count].iter().map(|&bound| bound.into()).collect();
+        claim(bounds == wanted, || format!("{bounds:?}, not {wanted:?}, of {:?}", set.used()))?;
+    }
+    Ok(())
+}
+
+/// Bounds of both tests and rounds of sets of every kind against the definition.
+pub fn bounds(rules: Rules, seed: u64, draws: usize) -> Found {
+    let mut rng = Rng::new(seed);
+    for _ in 0..draws {
+        let set = sets::any(&mut rng);
+        let delays = (rules.delays)(&set);
+        let equation = Equation::of(&set);
+        let (list, rounds) = equation.rounds();
+        let wanted = (equation.values(&definition::deadlines(&set)), equation.values(&list), rounds);
+        let wide = |bounds: &[u32]| bounds[..delays.count].iter().map(|&bound| bound.into()).collect::<Vec<i64>>();
+        let found = (wide(&delays.basic), wide(&delays.tightened), delays.rounds);
+        claim(found == wanted, || format!("{found:?}, not {wanted:?}, of {:?}", set.used()))?;
+    }
+    Ok(())
+}
+
+/// Slots of sets of every kind from any good state, some of them in a row, against the definition.
+pub fn slots(rules: Rules, seed: u64, draws: usize) -> Found {
+    let mut rng = Rng::new(seed);
+    for _ in 0..draws {
+        let set = sets::any(&mut rng);
+        let mut machine = (rules.machine)(&set);
+        for _ in 0..6 {
+            let mut state = records::state(&mut rng, &set);
+            for _ in 0..rng.within(1, 8) {
+                if machine.judge(&state).refuses() {
+                    break;
+                }
+                let (wanted, does) = definition::slot(&set, &state);
+                let mut slot = Slot::default();
+                machine.step(&mut state, &mut slot);
+                claim(slot == does && state == wanted, || format!("{slot:?}, not {does:?}, of {:?}", set.used()))?;
+            }
+        }
+    }
+    Ok(())
+}
+
+/// How demand 3 fared over many sets.
+#[derive(Default, Debug)]
+pub struct Fared {
+    /// Sets that a test admits.
+    pub admitted: usize,
+    /// Sets that only the tightened test admits.
+    pub only_tightened: usize,
+    /// Sets of which a packet took exactly its flow's basic, its flow's tightened bound.
+    pub attained: [usize; 2],
+    /// Packets delivered.
+    pub packets: usize,
+}
+
+/// Demand 3 run over tight sets, each for 150 slots: several times every period.
+pub fn demand3(rules: Rules, seed: u64, draws: usize) -> Result<Fared, String> {
+    demand3_of(rules, sets::tight, 150, seed, draws)
+}
+
+/// Demand 3 run over random sets with the bounds of each test that admits.
+pub fn demand3_of(
+    rules: Rules,
+    draw: fn(&mut Rng) -> Set,
+    slots: u32,
+    seed: u64,
+    draws: usize,
+) -> Result<Fared, String> {
+    let (mut rng, mut fared) = (Rng::new(seed), Fared::default());
+    for _ in 0..draws {
+        let set = draw(&mut rng);
+        let delays = (rules.delays)(&set);
+        let verdict = delays.verdict();
+        fared.admitted += usize::from(verdict.basic || verdict.tightened);
+        fared.only_tightened += usize::from(verdict.tightened && !verdict.basic);
+        for (test, admits, bounds) in [(0, verdict.basic, delays.basic), (1, verdict.tightened, delays.tightened)] {
+            if admits {
+                let (packets, attained) = run(rules, &set, &bounds, slots)?;
+                fared.packets += packets;
+                fared.attained[test] += usize::from(attained);
+            }
+        }
+    }
+    Ok(fared)
+}
+
+/// Demand 3 for one set: a run from the fresh state. Answers how many packets were delivered, and whether one of them
+/// took exactly its bound.
+fn run(rules: Rules, set: &Set, bounds: &[u32], slots: u32) -> Result<(usize, bool), String> {
+    let (mut machine, mut state, mut slot) = ((rules.machine)(set), State::FRESH, Slot::default());
+    let (mut made, mut packets, mut attained) = ([0u32; 64], 0, false);
+    for t in 0..slots {
+        let because = |why: &str| format!("{why} in slot {t} of map {}, {:?}", set.map, set.used());
+        machine.step(&mut state, &mut slot);
+        apart(set, &slot).map_err(|why| because(&why))?;
+        claim(slot.dropped.is_empty(), || because("a drop"))?;
+        for (k, flow) in set.used().iter().enumerate() {
+            let Some(release) = release(flow, t) else { continue };
+            if t == release {
+                made[k] = 0;
+            }
+            let sends: Vec<_> = slot.sends.iter().filter(|sent| usize::from(sent.flow) == k).collect();
+            claim(sends.len() <= 1, || because("a flow twice"))?;
+            for sent in &sends {
+                let (link, attempt) = (made[k] / u32::from(flow.tries), made[k] % u32::from(flow.tries));
+                let wanted = (flow.route[link as usize], flow.route[link as usize + 1], attempt as u8);
+                claim((sent.from, sent.to, sent.attempt) == wanted, || because("not in route order"))?;
+                made[k] += 1;
+                claim(t - release < bounds[k], || because("a send after the bound"))?;
+            }
+            let done = made[k] == flow.c();
+            claim(done || t + 1 < release + bounds[k], || because(&format!("flow {k} is late")))?;
+            let delivered = slot.delivered.iter().find(|packet| usize::from(packet.flow) == k);
+            let delay = (done && !sends.is_empty()).then_some((t - release + 1) as u16);
+            claim(delivered.map(|packet| packet.delay) == delay, || because("a wrong report"))?;
+            packets += usize::from(delay.is_some());
+            attained |= delay.map(u32::from) == Some(bounds[k]);
+        }
+    }
+    Ok((packets, attained))
+}
+
+/// The release of a flow's latest packet.
+fn release(flow: &Flow, t: u32) -> Option<u32> {
+    let age = t.checked_sub(u32::from(flow.start))?;
+    Some(t - age % u32::from(flow.period))
+}
+
+/// No node twice, no channel twice, no channel that the set lacks, not more than it has.
+fn apart(set: &Set, slot: &Slot) -> Found {
+    let mut nodes: Vec<u16> = slot.sends.iter().flat_map(|sent| [sent.from, sent.to]).collect();
+    let mut channels: Vec<u8> = slot.sends.iter().map(|sent| sent.channel).collect();
+    let all = nodes.len();
+    nodes.sort_unstable();
+    nodes.dedup();
+    channels.sort_unstable();
+    channels.dedup();
+    claim(nodes.len() == all, || "a node twice".into())?;
+    claim(channels.len() == slot.sends.len(), || "a channel twice".into())?;
+    claim(slot.sends.len() <= set.map.count_ones() as usize, || "too many channels".into())?;
+    claim(channels.iter().all(|channel| set.map >> (channel - 11) & 1 == 1), || "a channel the set lacks".into())
+}

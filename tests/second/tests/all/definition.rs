@@ -1,0 +1,143 @@
+//! Document 01 in its slowest and most literal words: signed numbers, nested loops, all lists tried. For tiny sets and
+//! single slots only; it shares nothing with the library but the records.
+
+use second::{Delivered, Flow, Set, Slot, State, Transmission};
+
+pub fn c(flow: &Flow) -> i64 {
+    (i64::from(flow.nodes) - 1) * i64::from(flow.tries)
+}
+
+/// S: κ of l times the number of l's links that have an end on k's route.
+pub fn s(k: &Flow, l: &Flow) -> i64 {
+    let on_route = |node: &u16| k.used().iter().any(|other| other == node);
+    let links = l.used().windows(2).filter(|link| on_route(&link[0]) || on_route(&link[1])).count();
+    i64::from(l.tries) * links as i64
+}
+
+pub fn deadlines(set: &Set) -> Vec<i64> {
+    set.used().iter().map(|flow| i64::from(flow.deadline)).collect()
+}
+
+/// A set with S of every pair, which all lists share.
+pub struct Equation<'a> {
+    set: &'a Set,
+    s: Vec<Vec<i64>>,
+}
+
+impl Equation<'_> {
+    pub fn of(set: &Set) -> Equation<'_> {
+        let flows = set.used();
+        Equation { set, s: flows.iter().map(|k| flows.iter().map(|l| s(k, l)).collect()).collect() }
+    }
+
+    /// The equation's value of flow k at a list.
+    pub fn value(&self, k: usize, v: &[i64]) -> i64 {
+        let flows = self.set.used();
+        let (mut whole, mut conflict) = (0, 0);
+        for (l, flow) in flows.iter().enumerate() {
+            if l == k {
+                continue;
+            }
+            let q = i64::from(flows[k].deadline) / i64::from(flow.period);
+            let r = i64::from(flows[k].deadline) % i64::from(flow.period);
+            let r = (r - (i64::from(flow.deadline) - v[l])).max(0);
+            whole += q * c(flow) + c(flow).min(r);
+            conflict += q * self.s[k][l] + self.s[k][l].min(r);
+        }
+        c(&flows[k]) + conflict + (whole - conflict) / i64::from(self.set.map.count_ones())
+    }
+
+    pub fn values(&self, v: &[i64]) -> Vec<i64> {
+        (0..v.len()).map(|k| self.value(k, v)).collect()
+    }
+
+    /// The rounds as document 01 runs them: the list they end with, and their number.
+    pub fn rounds(&self) -> (Vec<i64>, u32) {
+        let mut v = deadlines(self.set);
+        let mut rounds = 0;
+        loop {
+            let before = v.clone();
+            for k in 0..v.len() {
+                v[k] = v[k].min(self.value(k, &v));
+            }
+            rounds += 1;
+            if v == before {
+                return (v, rounds);
+            }
+        }
+    }
+
+    /// The greatest list by trying them all: every list whose every entry is the smaller of the deadline and the
+    /// equation's value at that list, and of those the largest, place by place. None where no list is the largest.
+    pub fn greatest(&self) -> Option<Vec<i64>> {
+        let deadlines = deadlines(self.set);
+        let mut found: Vec<Vec<i64>> = Vec::new();
+        let mut v = vec![0; deadlines.len()];
+        loop {
+            if (0..v.len()).all(|k| v[k] == deadlines[k].min(self.value(k, &v))) {
+                found.push(v.clone());
+            }
+            let Some(place) = (0..v.len()).find(|&k| v[k] < deadlines[k]) else { break };
+            v[..place].fill(0);
+            v[place] += 1;
+        }
+        let largest = |one: &Vec<i64>| found.iter().all(|other| other.iter().zip(one).all(|(o, v)| o <= v));
+        found.iter().find(|one| largest(one)).cloned()
+    }
+}
+
+/// One flow's latest packet in a slot.
+struct Packet {
+    flow: usize,
+    release: i64,
+    deadline: i64,
+    had: i64,
+}
+
+/// Rules 1 and 2: the latest packet of each flow that has one.
+fn packets(set: &Set, state: &State) -> Vec<Packet> {
+    let t = i64::from(state.slot);
+    let mut packets = Vec::new();
+    for (k, flow) in set.used().iter().enumerate() {
+        let (start, period) = (i64::from(flow.start), i64::from(flow.period));
+        if t >= start {
+            let release = start + (t - start) / period * period;
+            let had = if t == release { 0 } else { i64::from(state.sent[k]) };
+            packets.push(Packet { flow: k, release, deadline: release + i64::from(flow.deadline), had });
+        }
+    }
+    packets
+}
+
+/// A slot of a good set from a good state: the next state, and what the slot does.
+pub fn slot(set: &Set, state: &State) -> (State, Slot) {
+    let (t, flows, packets) = (i64::from(state.slot), set.used(), packets(set, state));
+    let channels: Vec<u8> = (0..16).filter(|bit| set.map & 1 << bit != 0).map(|bit| 11 + bit).collect();
+    let (mut next, mut slot) = (*state, Slot::default());
+    next.slot += 1;
+    packets.iter().for_each(|packet| next.sent[packet.flow] = packet.had as u8);
+    let is_ready = |packet: &&Packet| t < packet.deadline && packet.had < c(&flows[packet.flow]);
+    let mut ready: Vec<&Packet> = packets.iter().filter(is_ready).collect();
+    ready.sort_by_key(|packet| (packet.deadline, packet.flow));
+    for packet in &ready {
+        let (flow, tries) = (&flows[packet.flow], i64::from(flows[packet.flow].tries));
+        let link = (packet.had / tries) as usize;
+        let (from, to) = (flow.route[link], flow.route[link + 1]);
+        let apart = |other: &Transmission| [from, to].iter().all(|node| *node != other.from && *node != other.to);
+        if slot.sends.len() < channels.len() && slot.sends.iter().all(apart) {
+            let offset = slot.sends.len();
+            let channel = channels[(t as usize + offset) % channels.len()];
+            let attempt = (packet.had % tries) as u8;
+            slot.sends.push(Transmission { flow: packet.flow as u8, from, to, attempt, offset: offset as u8, channel });
+            next.sent[packet.flow] += 1;
+        }
+    }
+    for packet in packets.iter().filter(is_ready) {
+        if i64::from(next.sent[packet.flow]) == c(&flows[packet.flow]) {
+            slot.delivered.push(Delivered { flow: packet.flow as u8, delay: (t - packet.release + 1) as u16 });
+        } else if t + 1 == packet.deadline {
+            slot.dropped.push(packet.flow as u8);
+        }
+    }
+    (next, slot)
+}

@@ -1,0 +1,75 @@
+//! P1 to P11 and the plan of document 01, byte for byte.
+
+use crate::checks::{self, set_of, P1_PLAN, P1_TEXT, P8_TEXT, PAPER, RIGHT};
+use second::{bound, plan, read, step, verdict, Refusal, Set, State};
+
+fn plan_of(text: &str) -> String {
+    String::from_utf8(plan(text.as_bytes())).unwrap()
+}
+
+#[test]
+fn p1_to_p8_are_as_written() {
+    checks::paper(RIGHT).unwrap();
+}
+
+#[test]
+fn the_plan_of_p1_is_byte_for_byte() {
+    assert_eq!(plan_of(P1_TEXT), P1_PLAN);
+}
+
+#[test]
+fn p1_has_three_rounds_and_its_margins() {
+    let set = set_of(P1_TEXT);
+    assert_eq!(verdict(&set).rounds, 3);
+    assert_eq!([bound(&set, 0).margin, bound(&set, 1).margin], [6, 14]);
+}
+
+#[test]
+fn p3_has_margin_minus_one_and_is_planned_all_the_same() {
+    let mut wanted = String::from("verdict\t0\t0\t1\n");
+    for flow in 0..5 {
+        wanted += &format!("bound\t{flow}\t1\t2\t2\t1\t-1\n");
+    }
+    wanted += "send\t0\t0\t1\t2\t0\t11\nsend\t0\t1\t3\t4\t0\t12\nsend\t0\t2\t5\t6\t0\t13\nsend\t0\t3\t7\t8\t0\t14\n";
+    wanted +=
+        "send\t10\t0\t1\t2\t0\t13\nsend\t10\t1\t3\t4\t0\t14\nsend\t10\t2\t5\t6\t0\t11\nsend\t10\t3\t7\t8\t0\t12\n";
+    assert_eq!(plan_of(PAPER[2].text), wanted);
+}
+
+#[test]
+fn p8_sends_each_link_twice() {
+    let (set, mut state, mut order) = (set_of(P8_TEXT), State::FRESH, Vec::new());
+    for _ in 0..4 {
+        let step = step(&set, &state);
+        order.extend(step.slot.sends.iter().map(|sent| (sent.from, sent.to, sent.attempt)));
+        state = step.state;
+    }
+    assert_eq!(order, [(1, 2, 0), (1, 2, 1), (2, 3, 0), (2, 3, 1)]);
+}
+
+#[test]
+fn p9_to_p11_are_refused() {
+    for (text, number, line) in [
+        ("set\t1\nflow\t10\t3\t0\t2\t1\t2\t3\n", 9, 2),
+        ("set\t0\n", 2, 1),
+        ("set\t1\nflow\t10\t4\t0\t2\t1\t2\t1\n", 8, 2),
+    ] {
+        let read = read(text.as_bytes());
+        assert_eq!((read.refusal, read.set), (Refusal::at(number, line), Set::BLANK));
+        assert_eq!(plan_of(text), format!("refused\t{number}\t{line}\n"));
+    }
+}
+
+#[test]
+fn no_flows_are_admitted_in_one_round() {
+    assert_eq!(plan_of("set\t65535\n"), "verdict\t1\t1\t1\n");
+}
+
+#[test]
+fn input_above_16384_bytes_is_refused_unread() {
+    let mut text = P1_TEXT.to_string() + &"x".repeat(16_384 - P1_TEXT.len());
+    assert_eq!(plan_of(&text), "refused\t1\t4\n");
+    text.push('x');
+    assert_eq!(plan_of(&text), "refused\t10\t0\n");
+    assert_eq!(plan_of(""), "refused\t1\t1\n");
+}

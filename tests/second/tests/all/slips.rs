@@ -1,0 +1,107 @@
+//! The tests of the tests: each wrong rule is put in, and the very checks that the right rules pass must fail.
+
+use crate::checks::{self, machine_slip, planner_slip, Rules, RIGHT};
+use second::slip;
+
+/// Which checks catch a slip: the paper's sets, the greatest list by search, the bounds and the slots by the
+/// definition, and demand 3 by simulation, which must catch it whatever the seed.
+#[derive(Debug)]
+struct Caught {
+    paper: bool,
+    greatest: bool,
+    bounds: bool,
+    slots: bool,
+    demand3: bool,
+}
+
+fn caught(rules: Rules) -> Caught {
+    Caught {
+        paper: checks::paper(rules).is_err(),
+        greatest: checks::greatest(rules, 21, 1_000).is_err(),
+        bounds: checks::bounds(rules, 22, 1_000).is_err(),
+        slots: checks::slots(rules, 23, 1_000).is_err(),
+        demand3: [24, 25, 26].iter().all(|&seed| checks::demand3(rules, seed, 3_000).is_err()),
+    }
+}
+
+#[test]
+fn the_right_rules_pass_every_check() {
+    let none = caught(RIGHT);
+    assert!(!(none.paper || none.greatest || none.bounds || none.slots || none.demand3));
+}
+
+#[test]
+fn dividing_each_share_is_caught() {
+    let by = caught(planner_slip::<{ slip::DIVIDE_EACH }>());
+    assert!(by.paper && by.greatest && by.bounds && by.demand3);
+}
+
+#[test]
+fn ending_at_the_first_passed_over_is_caught() {
+    let by = caught(machine_slip::<{ slip::END_AT_PASSED }>());
+    assert!(by.paper && by.slots && by.demand3);
+}
+
+#[test]
+fn counting_only_common_links_is_caught() {
+    let by = caught(planner_slip::<{ slip::COMMON_LINKS }>());
+    assert!(by.paper && by.greatest && by.bounds && by.demand3);
+}
+
+#[test]
+fn one_packet_too_few_is_caught() {
+    let by = caught(planner_slip::<{ slip::PACKET_TOO_FEW }>());
+    assert!(by.paper && by.greatest && by.bounds && by.demand3);
+}
+
+#[test]
+fn a_window_one_slot_short_is_caught() {
+    let by = caught(planner_slip::<{ slip::SHORT_WINDOW }>());
+    assert!(by.greatest && by.bounds && by.demand3);
+}
+
+#[test]
+fn going_below_zero_is_caught() {
+    let by = caught(planner_slip::<{ slip::BELOW_ZERO }>());
+    assert!(by.greatest && by.bounds && by.demand3);
+}
+
+#[test]
+fn ties_to_the_higher_flow_are_caught() {
+    let by = caught(machine_slip::<{ slip::HIGHER_FIRST }>());
+    assert!(by.paper && by.slots);
+}
+
+#[test]
+fn entries_above_the_deadline_are_caught() {
+    let by = caught(planner_slip::<{ slip::NO_CLAMP }>());
+    assert!(by.greatest && by.bounds);
+}
+
+#[test]
+fn stopping_when_schedulable_is_caught() {
+    let by = caught(planner_slip::<{ slip::STOP_WHEN_ADMITTED }>());
+    assert!(by.greatest && by.bounds);
+}
+
+#[test]
+fn using_old_entries_is_caught() {
+    assert!(caught(planner_slip::<{ slip::OLD_ENTRIES }>()).bounds);
+}
+
+#[test]
+fn sending_late_packets_is_caught() {
+    assert!(caught(machine_slip::<{ slip::KEEP_LATE }>()).slots);
+}
+
+#[test]
+fn believing_the_count_at_release_is_caught() {
+    let by = caught(machine_slip::<{ slip::KEEP_COUNT }>());
+    assert!(by.slots && by.demand3);
+}
+
+#[test]
+fn channels_that_stand_still_are_caught() {
+    let by = caught(machine_slip::<{ slip::STILL_CHANNELS }>());
+    assert!(by.paper && by.slots);
+}
