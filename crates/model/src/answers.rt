@@ -86,6 +86,7 @@ pub struct Bounds {
 }
 
 // One transmission: in `slot`, over the link `from` to `to`.
+#[repr(C)]
 pub struct Send {
     pub slot: Slot,
     pub flow: u16,
@@ -96,6 +97,7 @@ pub struct Send {
     pub channel: u16,
 }
 
+#[repr(C)]
 pub struct Delivery {
     pub flow: u16,
     pub delay: Span,

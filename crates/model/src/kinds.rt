@@ -1,4 +1,5 @@
-// The kinds of thing that document 01 limits: slots, channel maps, flows, sets and states.
+// The kinds of thing that document 01 limits: slots, channel maps, flows, sets and states. Their layout is C's, so that a record can be
+// handed over as it is.
 ghost use mathlib.Core.Path.{_≡_};
 ghost use Prim.Native.Nat.{_+_, _-_, _≤_, min};
 ghost use lib.Count.{ones};
@@ -8,9 +9,11 @@ ghost use Rattle.model.specs.Limits.{limitsOf};
 ghost use Rattle.model.specs.Sets.{blankFlow, blankSet, freshState};
 
 // An absolute slot number: slots of 10 ms, counted from the machine's first.
+#[repr(C)]
 pub struct Slot(pub u32);
 
 // A count of slots: a period, a relative deadline, a delay.
+#[repr(C)]
 pub struct Span(pub u16);
 
 impl Slot {
@@ -53,6 +56,7 @@ impl Span {
 }
 
 // Bit i stands for IEEE 802.15.4 channel 11 + i.
+#[repr(C)]
 pub struct ChannelMap(pub u16);
 
 impl ChannelMap {
@@ -75,6 +79,7 @@ impl ChannelMap {
 }
 
 // A flow as a record. Every value of every field is accepted by every function; the record check says which are good.
+#[repr(C)]
 pub struct Flow {
     pub period: Span,
     pub deadline: Span,
@@ -130,6 +135,7 @@ impl Flow {
     }
 }
 
+#[repr(C)]
 pub struct FlowSet {
     pub map: ChannelMap,
     pub count: u16,
@@ -150,6 +156,7 @@ impl FlowSet {
 }
 
 // The slot machine's state: the present slot, and how many transmissions each flow's latest packet has had.
+#[repr(C)]
 pub struct State {
     pub slot: Slot,
     pub sent: [u8; Flow::MOST],

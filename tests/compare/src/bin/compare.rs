@@ -1,0 +1,196 @@
+//! Compares the proved planner with the second one on every function, for a bounded time, with seeds that it prints.
+//! A difference prints the input as text and fails. Every refusal number must have been seen.
+
+use compare::{Fault, Record};
+use second::inputs::{records, sets, texts, Rng};
+use second::write::text_of;
+use second::{Machine, Planner, Refusal, Set, Slot, State};
+use std::time::{Duration, Instant};
+
+/// What was compared, and how often each refusal was made.
+struct Tally {
+    seed: u64,
+    refusals: [u64; 14],
+    inputs: u64,
+    slots: u64,
+    packets: u64,
+    admitted: u64,
+}
+
+impl Tally {
+    /// Holds what both planners say of a refusal together, and counts it.
+    fn fault(&mut self, what: &str, input: &Set, proved: Fault, other: Refusal) {
+        self.refusals[usize::from(other.number)] += 1;
+        let same = proved.refusal == u32::from(other.number) && proved.line == u32::from(other.line);
+        self.hold(what, input, same, || format!("{proved:?} and {other:?}"));
+    }
+
+    /// Fails with the input where the two differ.
+    fn hold(&mut self, what: &str, input: &Set, same: bool, told: impl Fn() -> String) {
+        self.inputs += 1;
+        if !same {
+            println!("seed {}: {what} differs: {}", self.seed, told());
+            println!("map {} count {}", input.map, input.count);
+            for flow in &input.flows[..usize::from(input.count).min(64)] {
+                println!("{flow:?}");
+            }
+            println!("{}", String::from_utf8_lossy(&text_of(input)));
+            std::process::exit(1);
+        }
+    }
+}
+
+fn main() {
+    let seconds = std::env::args().nth(1).and_then(|s| s.parse().ok()).unwrap_or(100);
+    let first: u64 = std::env::args().nth(2).and_then(|s| s.parse().ok()).unwrap_or(1);
+    let end = Instant::now() + Duration::from_secs(seconds);
+    let mut tally = Tally { seed: first, refusals: [0; 14], inputs: 0, slots: 0, packets: 0, admitted: 0 };
+    named(&mut tally);
+    while Instant::now() < end {
+        let mut rng = Rng::new(tally.seed);
+        for _ in 0..20 {
+            read_and_write(&mut tally, &texts::any(&mut rng));
+            over_record(&mut tally, &mut rng);
+        }
+        long_run(&mut tally, &mut rng);
+        tally.seed += 1;
+    }
+    println!("seeds {first} to {}: {} comparisons, {} slots, {} packets of {} admitted sets", tally.seed - 1, tally.inputs, tally.slots,
+        tally.packets, tally.admitted);
+    println!("refusals seen: {}", (0..14).map(|n| format!("{n}: {}", tally.refusals[n])).collect::<Vec<_>>().join(", "));
+    if tally.refusals.contains(&0) {
+        println!("a refusal number was never seen");
+        std::process::exit(1);
+    }
+}
+
+/// The reader, and the writer on what was read.
+fn read_and_write(tally: &mut Tally, text: &[u8]) {
+    let other = second::read(text);
+    let (fault, set) = compare::read(text);
+    tally.fault(&format!("reading {:?}", String::from_utf8_lossy(text)), &other.set, fault, other.refusal);
+    tally.hold("the set read", &other.set, set == other.set, || String::from_utf8_lossy(text).into());
+    if !other.refusal.refuses() {
+        let mut out = vec![0xa5u8; text.len() + 3];
+        let written = Record::new(&set).write(&mut out);
+        tally.hold("the text written again", &set, written.length == text.len() && out[..text.len()] == *text, || format!("{written:?}"));
+        tally.hold("the bytes after the text", &set, out[text.len()..] == [0xa5; 3], || format!("{written:?}"));
+    }
+}
+
+/// Every function over a record, good or not, from any state.
+fn over_record(tally: &mut Tally, rng: &mut Rng) {
+    let mut set = if rng.once_in(2) { records::record(rng) } else { sets::any(rng) };
+    if rng.once_in(2) {
+        records::garbage(rng, &mut set);
+    }
+    let record = Record::new(&set);
+    tally.fault("the record check", &set, record.fault(), second::check(&set));
+    write_record(tally, rng, &set, &record);
+    delays(tally, rng, &set, &record);
+    let st = records::state(rng, &set);
+    one_step(tally, &set, &record, &st);
+}
+
+fn write_record(tally: &mut Tally, rng: &mut Rng, set: &Set, record: &Record) {
+    let room = if rng.once_in(4) { rng.below(200) } else { 8200 };
+    let (mut ours, mut theirs) = (vec![0x5au8; room], vec![0x5au8; room]);
+    let (a, b) = (record.write(&mut ours), second::write(set, &mut theirs));
+    tally.fault("the writer's refusal", set, a.fault, b.refusal);
+    tally.hold("what the writer wrote", set, a.length == b.bytes && ours == theirs, || format!("{a:?}, {b:?}"));
+}
+
+fn delays(tally: &mut Tally, rng: &mut Rng, set: &Set, record: &Record) {
+    let (a, b) = (record.verdict(), second::verdict(set));
+    tally.fault("the verdict's refusal", set, a.fault, b.refusal);
+    let same = (a.basic, a.tightened, a.rounds) == (b.basic.into(), b.tightened.into(), b.rounds);
+    tally.hold("the verdict", set, same, || format!("{a:?}, {b:?}"));
+    for k in [0, rng.below(64) as u16, rng.below(66) as u16, rng.word()] {
+        let (a, b) = (record.bounds(k), second::bound(set, k.into()));
+        tally.fault("a bound's refusal", set, a.fault, b.refusal);
+        let same = (a.work, a.basic, a.tightened, a.deadline, a.margin) == (b.c, b.basic, b.tightened, b.deadline, b.margin);
+        tally.hold("a bound", set, same, || format!("flow {k}: {a:?}, {b:?}"));
+    }
+}
+
+/// One step from a state, refused or not.
+fn one_step(tally: &mut Tally, set: &Set, record: &Record, st: &State) {
+    let (a, b) = (record.step(st), second::step(set, st));
+    tally.slots += 1;
+    tally.fault("a step's refusal", set, a.fault, b.refusal);
+    let sends = a.sends.iter().map(|x| (x.slot, x.flow, x.from, x.to, x.attempt, x.offset, x.channel));
+    let others = b.slot.sends.iter().map(|x| {
+        (st.slot, x.flow.into(), x.from, x.to, x.attempt.into(), x.offset.into(), x.channel.into())
+    });
+    tally.hold("a slot's sends", set, sends.eq(others), || format!("{st:?}: {a:?}, {b:?}"));
+    let delivered = a.delivered.iter().map(|x| (x.flow, x.delay)).eq(b.slot.delivered.iter().map(|x| (x.flow.into(), x.delay)));
+    let dropped = a.dropped.iter().copied().eq(b.slot.dropped.iter().map(|x| u16::from(*x)));
+    tally.hold("a slot's reports", set, delivered && dropped && a.blank, || format!("{st:?}: {a:?}, {b:?}"));
+    tally.hold("the next state", set, a.next == b.state, || format!("{st:?}: {a:?}, {b:?}"));
+}
+
+/// Thousands of slots of one set from the fresh state, with demand 3 checked where a test admits it.
+fn long_run(tally: &mut Tally, rng: &mut Rng) {
+    let set = if rng.once_in(2) { sets::tight(rng) } else { sets::any(rng) };
+    let record = Record::new(&set);
+    let (Ok(mut machine), Ok(planner)) = (Machine::new(&set), Planner::new(&set)) else { return };
+    let delays = planner.delays();
+    let budget = 500 + rng.below(2500) as u32;
+    let (mut st, mut slot, mut delivered, mut dropped) = (State::FRESH, Slot::new(), 0u64, 0u64);
+    let verdict = delays.verdict();
+    for _ in 0..budget {
+        if tally.slots % 7 == 0 {
+            one_step(tally, &set, &record, &st);
+        }
+        machine.step(&mut st, &mut slot);
+        tally.slots += 1;
+        delivered += slot.delivered.len() as u64;
+        dropped += slot.dropped.len() as u64;
+        for d in &slot.delivered {
+            let k = usize::from(d.flow);
+            let late = (verdict.basic && u32::from(d.delay) > delays.basic[k]) || (verdict.tightened && u32::from(d.delay) > delays.tightened[k]);
+            tally.hold("demand 3: a delay above its bound", &set, !late, || format!("{d:?}"));
+        }
+    }
+    let ran = record.run(budget);
+    let same = ran.last == st && ran.delivered == delivered && ran.dropped == dropped;
+    tally.hold("a run", &set, same, || format!("{budget} slots: {ran:?}, {st:?}, {delivered}, {dropped}"));
+    if verdict.basic || verdict.tightened {
+        tally.admitted += 1;
+        tally.packets += ran.delivered;
+        tally.hold("demand 3: a dropped packet", &set, ran.dropped == 0, || format!("{ran:?}"));
+    }
+}
+
+/// Document 01's "run only" list, as named cases.
+fn named(tally: &mut Tally) {
+    let line = |t: u32, d: u32, nodes: u16| {
+        let route: String = (0..nodes).map(|n| format!("\t{n}")).collect();
+        format!("flow\t{t}\t{d}\t0\t1{route}\n")
+    };
+    let many = |n: usize| format!("set\t65535\n{}", line(100, 100, 2).repeat(n));
+    let one = |f: String| format!("set\t1\n{f}");
+    let cases = [
+        ("64 flows", many(64), 0),
+        ("65 flows", many(65), 3),
+        ("deadline equal to the period", one(line(50, 50, 2)), 0),
+        ("deadline one above the period", one(line(50, 51, 2)), 5),
+        ("17 nodes", one(line(50, 50, 17)), 0),
+        ("18 nodes", one(line(50, 50, 18)), 7),
+        ("07", "set\t07\n".to_string(), 1),
+        ("a missing last LF", "set\t7".to_string(), 1),
+    ];
+    for (name, text, number) in cases {
+        let refusal = compare::read(text.as_bytes()).0.refusal;
+        tally.hold(name, &Set::BLANK, refusal == number, || format!("refusal {refusal}"));
+        read_and_write(tally, text.as_bytes());
+    }
+    let set = second::read(many(3).as_bytes()).set;
+    let record = Record::new(&set);
+    let mut short = vec![1u8; many(3).len() - 1];
+    tally.hold("a buffer one byte short", &set, record.write(&mut short).fault.refusal == 10, String::new);
+    tally.hold("a buffer one byte short stays", &set, short.iter().all(|b| *b == 1), String::new);
+    for slot in [3_999_999_999, 4_000_000_000, 4_000_000_001] {
+        one_step(tally, &set, &record, &State { slot, ..State::FRESH });
+    }
+}

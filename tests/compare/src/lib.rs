@@ -1,0 +1,225 @@
+//! The proved planner as Rust sees it: the exported functions, declared by hand, and safe functions over them.
+//! Nothing checks these declarations against the Rattle source but the comparison itself.
+
+use second::{Flow, Set, State};
+
+/// A refusal's number and line, both 0 where nothing is refused.
+#[repr(C)]
+#[derive(Clone, Copy, Debug, PartialEq, Eq)]
+pub struct Fault {
+    pub refusal: u32,
+    pub line: u32,
+}
+
+#[repr(C)]
+#[derive(Clone, Copy)]
+struct RawFlow {
+    period: u16,
+    deadline: u16,
+    start: u16,
+    tries: u16,
+    nodes: u16,
+    route: [u16; 17],
+}
+
+#[repr(C)]
+#[derive(Clone, Copy)]
+struct RawSet {
+    map: u16,
+    count: u16,
+    flows: [RawFlow; 64],
+}
+
+#[repr(C)]
+#[derive(Clone, Copy)]
+struct RawState {
+    slot: u32,
+    sent: [u8; 64],
+}
+
+#[repr(C)]
+struct RawReading {
+    fault: Fault,
+    set: RawSet,
+}
+
+/// How many bytes the writer wrote.
+#[repr(C)]
+#[derive(Clone, Copy, Debug, PartialEq, Eq)]
+pub struct Written {
+    pub fault: Fault,
+    pub length: usize,
+}
+
+/// Both verdicts; 1 admits.
+#[repr(C)]
+#[derive(Clone, Copy, Debug, PartialEq, Eq)]
+pub struct Verdict {
+    pub fault: Fault,
+    pub basic: u32,
+    pub tightened: u32,
+    pub rounds: u32,
+}
+
+/// One flow's bounds.
+#[repr(C)]
+#[derive(Clone, Copy, Debug, PartialEq, Eq)]
+pub struct Bounds {
+    pub fault: Fault,
+    pub work: u32,
+    pub basic: u32,
+    pub tightened: u32,
+    pub deadline: u32,
+    pub margin: i32,
+}
+
+/// One transmission.
+#[repr(C)]
+#[derive(Clone, Copy, Debug, PartialEq, Eq)]
+pub struct Send {
+    pub slot: u32,
+    pub flow: u16,
+    pub from: u16,
+    pub to: u16,
+    pub attempt: u16,
+    pub offset: u16,
+    pub channel: u16,
+}
+
+/// One delivered packet.
+#[repr(C)]
+#[derive(Clone, Copy, Debug, PartialEq, Eq)]
+pub struct Delivery {
+    pub flow: u16,
+    pub delay: u16,
+}
+
+#[repr(C)]
+struct RawStepped {
+    fault: Fault,
+    next: RawState,
+    sends: u16,
+    sent: [Send; 16],
+    deliveries: u16,
+    delivered: [Delivery; 16],
+    drops: u16,
+    dropped: [u16; 64],
+}
+
+#[repr(C)]
+struct RawRan {
+    fault: Fault,
+    last: RawState,
+    delivered: u64,
+    dropped: u64,
+}
+
+extern "C" {
+    fn probe_record_fault(s: RawSet) -> Fault;
+    fn probe_read(text: *const u8, length: usize) -> RawReading;
+    fn probe_write(s: RawSet, out: *mut u8, length: usize) -> Written;
+    fn probe_verdict(s: RawSet) -> Verdict;
+    fn probe_bounds(s: RawSet, flow: u16) -> Bounds;
+    fn probe_step(s: RawSet, st: RawState) -> RawStepped;
+    fn probe_run(s: RawSet, budget: u32) -> RawRan;
+}
+
+fn raw_flow(f: &Flow) -> RawFlow {
+    RawFlow { period: f.period, deadline: f.deadline, start: f.start, tries: f.tries, nodes: f.nodes, route: f.route }
+}
+
+/// A set as the proved planner takes it: made once, so that a measured call pays for no conversion.
+pub struct Record(RawSet);
+
+impl Record {
+    /// The record of a set, with every entry, used or not.
+    pub fn new(s: &Set) -> Record {
+        Record(RawSet { map: s.map, count: s.count, flows: std::array::from_fn(|k| raw_flow(&s.flows[k])) })
+    }
+
+    /// The record check.
+    pub fn fault(&self) -> Fault {
+        unsafe { probe_record_fault(self.0) }
+    }
+
+    /// The writer.
+    pub fn write(&self, out: &mut [u8]) -> Written {
+        unsafe { probe_write(self.0, out.as_mut_ptr(), out.len()) }
+    }
+
+    /// Both verdicts.
+    pub fn verdict(&self) -> Verdict {
+        unsafe { probe_verdict(self.0) }
+    }
+
+    /// One flow's bounds.
+    pub fn bounds(&self, flow: u16) -> Bounds {
+        unsafe { probe_bounds(self.0, flow) }
+    }
+
+    /// One step from a state.
+    pub fn step(&self, st: &State) -> Stepped {
+        let a = unsafe { probe_step(self.0, RawState { slot: st.slot, sent: st.sent }) };
+        Stepped {
+            fault: a.fault,
+            next: state(&a.next),
+            sends: a.sent[..a.sends.into()].to_vec(),
+            delivered: a.delivered[..a.deliveries.into()].to_vec(),
+            dropped: a.dropped[..a.drops.into()].to_vec(),
+            blank: a.sent[a.sends.into()..].iter().all(|x| x.slot == 0 && x.channel == 0 && x.from == 0 && x.to == 0)
+                && a.delivered[a.deliveries.into()..].iter().all(|x| x.flow == 0 && x.delay == 0)
+                && a.dropped[a.drops.into()..].iter().all(|x| *x == 0),
+        }
+    }
+
+    /// A run from the fresh state.
+    pub fn run(&self, budget: u32) -> Ran {
+        let a = unsafe { probe_run(self.0, budget) };
+        Ran { fault: a.fault, last: state(&a.last), delivered: a.delivered, dropped: a.dropped }
+    }
+}
+
+fn state(st: &RawState) -> State {
+    State { slot: st.slot, sent: st.sent }
+}
+
+/// A step's answer, its arrays cut to their counts.
+#[derive(Debug, PartialEq)]
+pub struct Stepped {
+    pub fault: Fault,
+    pub next: State,
+    pub sends: Vec<Send>,
+    pub delivered: Vec<Delivery>,
+    pub dropped: Vec<u16>,
+    /// Whether every entry beyond a count is blank.
+    pub blank: bool,
+}
+
+/// A run's answer.
+#[derive(Debug, PartialEq)]
+pub struct Ran {
+    pub fault: Fault,
+    pub last: State,
+    pub delivered: u64,
+    pub dropped: u64,
+}
+
+/// The reader's answer.
+pub fn read(text: &[u8]) -> (Fault, Set) {
+    let r = unsafe { probe_read(text.as_ptr(), text.len()) };
+    let flow = |f: &RawFlow| Flow {
+        period: f.period,
+        deadline: f.deadline,
+        start: f.start,
+        tries: f.tries,
+        nodes: f.nodes,
+        route: f.route,
+    };
+    let flows = std::array::from_fn(|k| flow(&r.set.flows[k]));
+    (r.fault, Set { map: r.set.map, count: r.set.count, flows })
+}
+
+/// The reader alone, for measuring: its answer is not taken apart.
+pub fn read_only(text: &[u8]) -> u32 {
+    unsafe { probe_read(text.as_ptr(), text.len()) }.fault.refusal
+}
