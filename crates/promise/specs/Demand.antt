@@ -1,0 +1,153 @@
+-- Demand 3 holds of document 01's machine. The basic test is the list of deadlines, at which the equation's value is the basic bound; the
+-- tightened test is the rounds' list, which every round keeps above the smaller of deadline and value.
+use mathlib.Core.Path.{_≡_, sym, ap, _∙_}
+use mathlib.Core.Bool.{Bool, true}
+use mathlib.Core.List.{List}
+use Prim.Native.Nat.{ℕ, zero, suc, _≤_, _<_, _^_}
+use native.Mathlib.Decide.{decLe}
+use native.Mathlib.Omega.{arith}
+use lib.ListN.{length, getD, length-take}
+use borrow.Author.Tests.{leb-true, lt-leb}
+use Rattle.model.specs.declared.kinds.FlowSet.{FlowSet}
+use Rattle.model.specs.declared.kinds.State.{State}
+use Rattle.model.specs.declared.answers.Stepped.{Stepped}
+use Rattle.model.specs.declared.answers.Verdict.{Verdict}
+use Rattle.model.specs.declared.answers.Bounds.{Bounds}
+use Rattle.model.specs.Limits.{mostChannels, lastSlot}
+use Rattle.model.specs.Refusals.{good}
+use Rattle.model.specs.Sums.{allTo}
+use Rattle.model.specs.Sets.{flowAt, used, filterTo}
+use Rattle.model.specs.Reader.{recordFault, readText}
+use Rattle.model.specs.Delay.{deadline, basicBound, valueAt, deadlines, reached, tightBound, admits, verdictIf, verdictOf, boundsFault, boundsIf, boundsOf}
+use Rattle.model.specs.Machine.{droppedAt, stepOf}
+use Rattle.laws.specs.Sums.{and-l, and-r}
+use Rattle.laws.specs.Used.{used-count, used-flow, used-map}
+use Rattle.laws.specs.Accepted.{accepted}
+use Rattle.greatest.specs.Values.{value-at-deadlines}
+use Rattle.greatest.specs.Rounds.{Between, between-deadlines, reached-between, accepted-fits}
+use Rattle.promise.specs.Promise.{report, Apart, Kept, Held, PromiseWith, Promise}
+use Rattle.promise.specs.Run.{stateAt}
+use Rattle.promise.specs.Reports.{drops-eq, dropped-eq, filter-at}
+use Rattle.promise.specs.Flows.{FlowKept, flow-kept}
+use Rattle.promise.specs.Slots.{slot-apart}
+use Rattle.promise.specs.Reading.{text-held, text-passes}
+
+-- every one passes
+all-each : (p : ℕ → Bool) (n : ℕ) → allTo p n ≡ true → (i : ℕ) → i < n → p i ≡ true
+unfolding allTo
+all-each p zero h i l = absurd (omega arith)
+all-each p (suc n) h i l =
+    elim (decLe n i) [
+      | yes k ↦ let e : i ≡ n = omega arith in rw e (and-r (allTo p n) (p n) h)
+      | no k ↦ all-each p n (and-l (allTo p n) (p n) h) i (omega arith)
+    ]
+
+-- the verdicts and the bounds of an accepted set, which nothing refuses
+module _ (s : FlowSet) (g : good (recordFault s .refusal) ≡ true) where
+  verdict-good : verdictOf s ≡ verdictIf s true
+  unfolding verdictOf
+  verdict-good = rw g
+
+  bounds-good : (k : ℕ) → k < s .count → boundsOf s k ≡ boundsIf s k true
+  unfolding boundsOf boundsFault
+  bounds-good k l = rw (g, lt-leb (s .count) k l)
+
+  pub basic-bound : (k : ℕ) → k < s .count → boundsOf s k .basic ≡ basicBound s k
+  basic-bound k l = ap (λ (b : Bounds). b .basic) (bounds-good k l)
+
+  pub tight-bound : (k : ℕ) → k < s .count → boundsOf s k .tightened ≡ tightBound s k
+  tight-bound k l = ap (λ (b : Bounds). b .tightened) (bounds-good k l)
+
+  -- a test admits when every bound is at most its deadline
+  pub basic-admits : verdictOf s .basic ≡ true → (k : ℕ) → k < s .count → boundsOf s k .basic ≤ deadline s k
+  unfolding admits
+  basic-admits e k l =
+      let a = all-each _ (s .count) (sym (ap (λ (v : Verdict). v .basic) verdict-good) ∙ e) k l in
+      rw (basic-bound k l) (leb-true _ _ a)
+
+  pub tight-admits : verdictOf s .tightened ≡ true → (k : ℕ) → k < s .count → boundsOf s k .tightened ≤ deadline s k
+  unfolding admits
+  tight-admits e k l =
+      let a = all-each _ (s .count) (sym (ap (λ (v : Verdict). v .tightened) verdict-good) ∙ e) k l in
+      rw (tight-bound k l) (leb-true _ _ a)
+
+  -- Flow by flow, in any accepted set: a flow whose own bound, of either test, is at most its deadline.
+  module _ (bits : s .map .0 < 2 ^ mostChannels) where
+    between-kept : (v : List ℕ) → Between s v → (k n : ℕ) → k < s .count → n ≤ lastSlot → valueAt s v k ≤ deadline s k
+        → FlowKept s k (valueAt s v k) n
+    between-kept v b k n l h = flow-kept s g v (b .le-deadline) (b .ge-value) k n l bits h
+
+    pub basic-flow : (k n : ℕ) → k < s .count → n ≤ lastSlot → boundsOf s k .basic ≤ deadline s k → FlowKept s k (boundsOf s k .basic) n
+    basic-flow k n l h d =
+        let e = value-at-deadlines s k ∙ sym (basic-bound k l) in
+        rw e at (between-kept (deadlines s) (between-deadlines s) k n l h (rw e d))
+
+    pub tight-flow : (k n : ℕ) → k < s .count → n ≤ lastSlot → boundsOf s k .tightened ≤ deadline s k
+        → FlowKept s k (boundsOf s k .tightened) n
+    unfolding tightBound
+    tight-flow k n l h d =
+        let e : valueAt s (reached s .list) k ≡ boundsOf s k .tightened = sym (tight-bound k l) in
+        rw e at (between-kept (reached s .list) (reached-between s (accepted-fits s (accepted s g))) k n l h (rw e d))
+
+    -- where every flow keeps its bound, the set does
+    flows-kept : (bound : ℕ → ℕ) (n : ℕ) → n ≤ lastSlot → ((k : ℕ) → k < s .count → length (flowAt s k .route) ≡ flowAt s k .nodes)
+        → ((k : ℕ) → k < s .count → FlowKept s k (bound k) n) → Kept stepOf s bound n
+    flows-kept bound n h w f =
+        record {
+          apart = λ t l. slot-apart s g bits w t (omega arith);
+          undropped = λ t l. none t l (decLe 1 (report stepOf s t .drops));
+          made = λ k j l. f k l .made j;
+        }
+      where
+        none : (t : ℕ) → t < n → Dec (1 ≤ report stepOf s t .drops) → report stepOf s t .drops ≡ 0
+        none t l (no x) = omega arith
+        none t l (yes x) =
+            let e = dropped-eq s g t 0 (omega arith) x in
+            let y = filter-at (droppedAt s (stateAt s t)) (s .count) 0 (omega (arith, drops-eq s g t (omega arith))) in
+            absurd (f (getD (filterTo (droppedAt s (stateAt s t)) (s .count)) 0 0) (y .0) .undropped t 0 l x e)
+
+-- a record as the code holds it has all the nodes of its routes
+used-whole : (s : FlowSet) → Held s → good (recordFault (used s) .refusal) ≡ true
+    → (k : ℕ) → k < used s .count → length (flowAt (used s) k .route) ≡ flowAt (used s) k .nodes
+used-whole s w g k l =
+    let i : k < s .count = rw (used-count s) at l in
+    let e = used-flow s k i in
+    let n = rw e at (accepted (used s) g .flow k l .nodes-le) in
+    rw (e, length-take) (omega (arith, w .1 k i))
+
+used-bits : (s : FlowSet) → Held s → used s .map .0 < 2 ^ mostChannels
+used-bits s w = rw (used-map s) (w .0)
+
+-- In every accepted set, admitted or not, no slot uses a node or a channel twice,
+pub apart-always : (s : FlowSet) → Held s → good (recordFault (used s) .refusal) ≡ true
+    → (t : ℕ) → t < lastSlot → Apart (used s) (report stepOf (used s) t)
+apart-always s w g = slot-apart (used s) g (used-bits s w) (used-whole s w g)
+
+-- and each flow whose own bound, of either test, is at most its deadline keeps it and loses no packet.
+pub safe-flow : (s : FlowSet) → Held s → good (recordFault (used s) .refusal) ≡ true → (k n : ℕ) → k < used s .count → n ≤ lastSlot
+    → (boundsOf (used s) k .basic ≤ deadline (used s) k → FlowKept (used s) k (boundsOf (used s) k .basic) n)
+    × (boundsOf (used s) k .tightened ≤ deadline (used s) k → FlowKept (used s) k (boundsOf (used s) k .tightened) n)
+safe-flow s w g k n l h = (basic-flow (used s) g (used-bits s w) k n l h, tight-flow (used s) g (used-bits s w) k n l h)
+
+-- Demand 3, of the machine in the step's contract, with the verdicts and the bounds of theirs.
+pub promise : Promise stepOf
+promise s w g n h = (
+  λ e. kept (λ k. boundsOf (used s) k .basic) (λ k l. safe-flow s w g k n l h .0 (basic-admits (used s) g e k l)),
+  λ e. kept (λ k. boundsOf (used s) k .tightened) (λ k l. safe-flow s w g k n l h .1 (tight-admits (used s) g e k l)),
+)
+  where
+    kept : (bound : ℕ → ℕ) → ((k : ℕ) → k < used s .count → FlowKept (used s) k (bound k) n) → Kept stepOf (used s) bound n
+    kept bound = flows-kept (used s) g (used-bits s w) bound n h (used-whole s w g)
+
+-- The same in the demand's own words: of a text that the reader accepts.
+abbrev pub TextPromise : (basic tightened : FlowSet → ℕ → ℕ) → (FlowSet → State → Stepped) → Type 0
+TextPromise basic tightened M = (text : List ℕ) → good (readText text .fault .refusal) ≡ true → (n : ℕ) → n ≤ lastSlot
+    → (verdictOf (used (readText text .set)) .basic ≡ true → Kept M (used (readText text .set)) (basic (used (readText text .set))) n)
+    × (verdictOf (used (readText text .set)) .tightened ≡ true → Kept M (used (readText text .set)) (tightened (used (readText text .set))) n)
+
+pub text-promise : (basic tightened : FlowSet → ℕ → ℕ) (M : FlowSet → State → Stepped) → PromiseWith basic tightened M
+    → TextPromise basic tightened M
+text-promise basic tightened M f text h = f (readText text .set) (text-held text h) (text-passes text h)
+
+pub demand-3 : TextPromise (λ s k. boundsOf s k .basic) (λ s k. boundsOf s k .tightened) stepOf
+demand-3 = text-promise (λ s k. boundsOf s k .basic) (λ s k. boundsOf s k .tightened) stepOf promise

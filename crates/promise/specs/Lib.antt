@@ -1,0 +1,12 @@
+pub mod Promise
+pub mod Run
+pub mod Timetable
+pub mod Reports
+pub mod Facts
+pub mod Flows
+pub mod Slots
+pub mod Reading
+pub mod Demand
+pub mod Named
+pub mod Machines
+pub mod Refuted

@@ -1,0 +1,59 @@
+-- Demand 3, of any machine M that answers a set and a state by a step, said of what the steps of its run from the fresh state report.
+use mathlib.Core.{Bool.{true}, Logic.{_≢_}, Path.{_≡_}}
+use Prim.Native.Nat.{ℕ, zero, suc, _+_, _/_, _%_, _^_, _≤_, _<_}
+use lib.ListN.{length, getD}
+use Rattle.model.specs.declared.{answers.Send.{Send}, answers.Stepped.{Stepped}, kinds.FlowSet.{FlowSet}, kinds.State.{State}}
+use Rattle.model.specs.{Reader.{recordFault}, Refusals.{good}, Sets.{flowAt, freshState, memb, used}}
+use Rattle.model.specs.Delay.{ways, workAt, verdictOf, boundsOf}
+use Rattle.model.specs.Limits.{mostChannels, mostNodes, lastSlot}
+use Rattle.model.specs.Machine.{channels, noSend, release}
+
+-- what slot t reports: the first step is from the fresh state, each later one from the state that the one before gave
+unfoldable pub report : (FlowSet → State → Stepped) → FlowSet → ℕ → Stepped
+report M s zero = M s freshState
+report M s (suc t) = M s (report M s t .next)
+
+-- transmission p of a report
+abbrev pub send : Stepped → ℕ → Send
+send r p = getD (r .sent) p noSend
+
+-- a slot uses no more channels than the set has, only the set's own, no node twice and no channel twice
+pub record Apart (s : FlowSet) (r : Stepped) : Type 0 where
+  pub few : r .sends ≤ ways s
+  pub own : (p : ℕ) → p < r .sends → memb (send r p .channel) (channels (s .map .0)) ≡ true
+  pub ends : (p : ℕ) → p < r .sends → send r p .from ≢ send r p .to
+  pub nodes : (p q : ℕ) → p < q → q < r .sends → (send r p .from ≢ send r q .from) × (send r p .from ≢ send r q .to)
+      × (send r p .to ≢ send r q .from) × (send r p .to ≢ send r q .to)
+  pub once : (p q : ℕ) → p < q → q < r .sends → send r p .channel ≢ send r q .channel
+
+-- x is transmission i of flow k in slot t: from node i / κ of its route to the next, as try i mod κ
+pub record Is (s : FlowSet) (t k i : ℕ) (x : Send) : Type 0 where
+  pub which : (x .slot .0 ≡ t) × (x .flow ≡ k) × (x .attempt ≡ i % flowAt s k .tries)
+  pub from : x .from ≡ getD (flowAt s k .route) (i / flowAt s k .tries) 0
+  pub to : x .to ≡ getD (flowAt s k .route) (i / flowAt s k .tries + 1) 0
+
+-- packet j of flow k has made all its C transmissions in the b slots from its release on, in route order: number i in slot `at i`
+pub record Made (M : FlowSet → State → Stepped) (s : FlowSet) (k j b : ℕ) : Type 0 where
+  pub at : ℕ → ℕ
+  pub sent : (i : ℕ) → i < workAt s k → (p : ℕ) × (p < report M s (at i) .sends) × Is s (at i) k i (send (report M s (at i)) p)
+  pub within : (i : ℕ) → i < workAt s k → (release (flowAt s k) j ≤ at i) × (at i < release (flowAt s k) j + b)
+  pub rising : (i h : ℕ) → i < h → h < workAt s k → at i < at h
+
+-- the first n slots keep the promise, with these bounds
+pub record Kept (M : FlowSet → State → Stepped) (s : FlowSet) (bound : ℕ → ℕ) (n : ℕ) : Type 0 where
+  pub apart : (t : ℕ) → t < n → Apart s (report M s t)
+  pub undropped : (t : ℕ) → t < n → report M s t .drops ≡ 0
+  pub made : (k j : ℕ) → k < s .count → release (flowAt s k) j + bound k ≤ n → Made M s k j (bound k)
+
+-- a record as the code holds it: a map of 16 bits, and room for 17 nodes in each flow
+abbrev pub Held : FlowSet → Type 0
+Held s = (s .map .0 < 2 ^ mostChannels) × ((k : ℕ) → k < s .count → length (flowAt s k .route) ≡ mostNodes)
+
+-- an accepted set that a test admits keeps the test's bounds, or those put in their place
+abbrev pub PromiseWith : (basic tightened : FlowSet → ℕ → ℕ) → (FlowSet → State → Stepped) → Type 0
+PromiseWith basic tightened M = (s : FlowSet) → Held s → good (recordFault (used s) .refusal) ≡ true → (n : ℕ) → n ≤ lastSlot
+    → (verdictOf (used s) .basic ≡ true → Kept M (used s) (basic (used s)) n)
+    × (verdictOf (used s) .tightened ≡ true → Kept M (used s) (tightened (used s)) n)
+
+abbrev pub Promise : (FlowSet → State → Stepped) → Type 0
+Promise = PromiseWith (λ s k. boundsOf s k .basic) (λ s k. boundsOf s k .tightened)

@@ -1,0 +1,262 @@
+-- What the promise excludes: each of these machines breaks it on a named set that a test admits. The checker computes the slots in question.
+use mathlib.Core.Path.{_≡_, refl, sym, ap, _∙_}
+use mathlib.Core.Bool.{Bool, true, false, false≢true}
+use Prim.Native.Nat.{ℕ, zero, suc, _+_, _-_, _*_, _/_, _%_, _≤_, _<_}
+use Prim.Native.String as string
+use native.Mathlib.Decide.{decLe}
+use native.Mathlib.Omega.{arith}
+use borrow.Author.Tests.{lt-ltb, le-ltb}
+use lib.ListN.{getD}
+use lib.Count.{ones, onesIn}
+use Rattle.model.specs.declared.kinds.FlowSet.{FlowSet}
+use Rattle.model.specs.declared.kinds.State.{State}
+use Rattle.model.specs.declared.answers.Stepped.{Stepped}
+use Rattle.model.specs.Limits.{lastSlot}
+use Rattle.model.specs.Refusals.{good}
+use Rattle.model.specs.Sums.{sumTo, anyTo, allTo}
+use Rattle.model.specs.Sets.{freshState, flowAt, memb, used, anyOf, meet, listTo, filterTo}
+use Rattle.model.specs.Text.{same, lines, ended, fields, allDigits, valueFrom, isNumber, allNumbers, valuesOf, wellFormed, numbersOf}
+use Rattle.model.specs.Reader.{twice, flowFault, flowsFault, recordFault, flowOf, withFlow, firstLineFault, flowLineFault, readFlows, setOf, readLines, readText}
+use Rattle.model.specs.Delay.{ways, period, workAt, conflictWork, share, overOthers, boundWith, basicBound, valueAt, deadlines, lowered, roundTo, roundsIn, reached, tightBound, admits, verdictOf, boundsFault, boundsOf}
+use Rattle.model.specs.Machine.{release, channels, ready, nextCount, insert, ordered, place, placedAt, channelsTo, radioChannel, sendOf, sendsFrom, countAfter, deliveredAt, deliveriesOf, droppedAt, nextState, badState, stepFault, stepOf}
+use Rattle.model.specs.Table.{bytes}
+use Rattle.promise.specs.Promise.{report, send, Is, Made, Kept, PromiseWith, Promise}
+use Rattle.promise.specs.Run.{report-slot}
+use Rattle.promise.specs.Reading.{text-passes}
+use Rattle.promise.specs.Demand.{text-promise}
+use Rattle.promise.specs.Named.{setFrom, Judged, p5, p7, p8, tight, premises}
+use Rattle.promise.specs.Machines.{idle, tiring, choosing, reckless, crowded, backward, altering, crossed, strayed, looped, turned, mistried, hurried}
+
+-- what is computed of P5, of P8 and of slots of these machines
+record OfP5 (s : FlowSet) : Type 0 where
+  flows : s .count ≡ 2
+  one-way : ways s ≡ 1
+  works : (workAt s 0 ≡ 1) × (workAt s 1 ≡ 1)
+  bounds : (boundsOf s 0 .basic ≡ 2) × (boundsOf s 1 .basic ≡ 2)
+  releases : (flowAt s 0 .start ≡ 0) × (period s 0 ≡ 10) × (release (flowAt s 1) 0 ≡ 0)
+  own : (report stepOf s 0 .sends ≡ 1) × (send (report stepOf s 0) 0 .flow ≡ 0)
+  crowd : report crowded s 0 .sends ≡ 2
+  stray : (report strayed s 0 .sends ≡ 1) × (memb (send (report strayed s 0) 0 .channel) (channels (s .map .0)) ≡ false)
+  loop : (report looped s 0 .sends ≡ 1) × (send (report looped s 0) 0 .from ≡ send (report looped s 0) 0 .to)
+
+record OfP8 (s : FlowSet) : Type 0 where
+  flows : s .count ≡ 1
+  four : (workAt s 0 ≡ 4) × (boundsOf s 0 .basic ≡ 4) × (release (flowAt s 0) 0 ≡ 0)
+  starts : (getD (flowAt s 0 .route) (0 / flowAt s 0 .tries) 0 ≡ 1) × (0 % flowAt s 0 .tries ≡ 0)
+  turn : (report turned s 0 .sends ≡ 1) × (send (report turned s 0) 0 .from ≡ 2)
+  again : (report mistried s 0 .sends ≡ 1) × (send (report mistried s 0) 0 .attempt ≡ 1)
+  hurry : (report hurried s 0 .sends ≡ 1) × (send (report hurried s 0) 0 .from ≡ 2)
+
+record Computed : Type 0 where
+  of-p5 : OfP5 (setFrom p5)
+  of-p8 : OfP8 (setFrom p8)
+  met : (report reckless (setFrom p7) 0 .sends ≡ 2) × (send (report reckless (setFrom p7) 0) 0 .to ≡ send (report reckless (setFrom p7) 0) 1 .from)
+  cross : (report crossed (setFrom p7) 0 .sends ≡ 2) × (send (report crossed (setFrom p7) 0) 0 .channel ≡ send (report crossed (setFrom p7) 0) 1 .channel)
+  lost : report backward (setFrom tight) 1 .drops ≡ 1
+
+computed : Computed
+unfolding report choosing altering bytes same lines ended fields allDigits valueFrom isNumber allNumbers valuesOf wellFormed numbersOf twice flowFault flowsFault recordFault flowOf withFlow firstLineFault flowLineFault readFlows setOf readLines readText conflictWork share overOthers boundWith basicBound valueAt deadlines lowered roundTo roundsIn reached tightBound admits verdictOf boundsFault boundsOf ready nextCount insert ordered place placedAt channelsTo radioChannel sendOf sendsFrom countAfter deliveredAt deliveriesOf droppedAt nextState badState stepFault stepOf sumTo anyTo allTo used anyOf meet listTo filterTo ones onesIn
+computed =
+    record {
+      of-p5 =
+          record {
+            flows = refl;
+            one-way = refl;
+            works = (refl, refl);
+            bounds = (refl, refl);
+            releases = (refl, refl, refl);
+            own = (refl, refl);
+            crowd = refl;
+            stray = (refl, refl);
+            loop = (refl, refl);
+          };
+      of-p8 =
+          record {
+            flows = refl;
+            four = (refl, refl, refl);
+            starts = (refl, refl);
+            turn = (refl, refl);
+            again = (refl, refl);
+            hurry = (refl, refl);
+          };
+      met = (refl, refl);
+      cross = (refl, refl);
+      lost = refl;
+    }
+
+-- a packet with a transmission is not made where no report of its slots has one of its flow
+unmade : (M : FlowSet → State → Stepped) (s : FlowSet) (k j b : ℕ) → workAt s k ≡ 1
+    → ((t p : ℕ) → release (flowAt s k) j ≤ t → t < release (flowAt s k) j + b → p < report M s t .sends → send (report M s t) p .flow ≡ k → ⊥)
+    → Made M s k j b → ⊥
+unmade M s k j b e f m =
+    let z : 0 < workAt s k = omega arith in
+    let w = m .within 0 z in
+    let x = m .sent 0 z in
+    f (m .at 0) (x .0) (w .0) (w .1) (x .1) (x .2 .which .1)
+
+-- the tests' own bounds
+abbrev pub basics : FlowSet → ℕ → ℕ
+basics s k = boundsOf s k .basic
+
+abbrev pub tights : FlowSet → ℕ → ℕ
+tights s k = boundsOf s k .tightened
+
+-- and bounds one less
+abbrev pub oneLess : (FlowSet → ℕ → ℕ) → FlowSet → ℕ → ℕ
+oneLess bound s k = bound s k - 1
+
+-- what the promise would give of a set that the basic test admits, in n slots
+basic-kept : (x : string.String) {b : Bool} → Judged x true b → (basic tightened : FlowSet → ℕ → ℕ) (M : FlowSet → State → Stepped)
+    → PromiseWith basic tightened M → (n : ℕ) → n ≤ lastSlot → Kept M (setFrom x) (basic (setFrom x)) n
+basic-kept x j basic tightened M f n h = text-promise basic tightened M f (bytes x) (j .read) n h .0 (j .by-basic)
+
+p5-kept : (basic tightened : FlowSet → ℕ → ℕ) (M : FlowSet → State → Stepped) → PromiseWith basic tightened M → (n : ℕ) → n ≤ lastSlot
+    → Kept M (setFrom p5) (basic (setFrom p5)) n
+p5-kept = basic-kept p5 (premises .of-p5)
+
+-- A machine that sends nothing of P5 from some slot on, whatever it did before: the next packet of flow 0 is not sent.
+pub silent-refuted : (M : FlowSet → State → Stepped) (n : ℕ) → n + 12 ≤ lastSlot → ((t : ℕ) → n ≤ t → report M (setFrom p5) t .sends ≡ 0)
+    → Promise M → ⊥
+silent-refuted M n h z f =
+    let c = computed .of-p5 in
+    let a = c .releases in
+    let b = c .bounds in
+    let j : ℕ = n / 10 + 1 in
+    let r : release (flowAt (setFrom p5) 0) j ≡ j * 10 = rw (a .0, a .1) (omega arith) in
+    unmade M (setFrom p5) 0 j (basics (setFrom p5) 0) (c .works .0) (λ t p g l i e. omega (arith, z t (omega arith)))
+    (p5-kept basics tights M f (n + 12) h .made 0 j (omega (arith, c .flows)) (omega arith))
+
+-- The idle machine.
+idle-sends : (s : FlowSet) (t : ℕ) → report idle s t .sends ≡ 0
+unfolding report idle
+idle-sends s zero = refl
+idle-sends s (suc t) = refl
+
+pub idle-refuted : Promise idle → ⊥
+idle-refuted = silent-refuted idle 0 (omega arith) (λ t h. idle-sends (setFrom p5) t)
+
+-- The machine that schedules the first packets and idles from slot n on, for any n: until then its run is document 01's.
+module _ (s : FlowSet) (g : good (recordFault s .refusal) ≡ true) (n : ℕ) (last : n ≤ lastSlot) where
+  awake : (st : State) → st .slot .0 < n → tiring n s st ≡ stepOf s st
+  unfolding tiring
+  awake st h = rw (lt-ltb (st .slot .0) n h)
+
+  -- a state at n or later gives an idle step
+  tired : (st : State) → n ≤ st .slot .0 → (tiring n s st .sends ≡ 0) × (tiring n s st .next .slot .0 ≡ st .slot .0 + 1)
+  unfolding tiring idle
+  tired st h = rw (le-ltb (st .slot .0) n h) (refl, refl)
+
+  tiring-below : (t : ℕ) → t < n → report (tiring n) s t ≡ report stepOf s t
+  unfolding report
+  tiring-below zero h = awake freshState h
+  tiring-below (suc t) h =
+      rw (tiring-below t (omega arith)) (awake (report stepOf s t .next) (omega (arith, report-slot s g t (omega arith))))
+
+  -- so slot t ends at t + 1, and none from n on sends
+  tiring-ends : (t : ℕ) → (n ≤ t → report (tiring n) s t .sends ≡ 0) × (report (tiring n) s t .next .slot .0 ≡ t + 1)
+  unfolding report
+  tiring-ends zero =
+      elim (decLe n 0) [
+        | yes h ↦ let w = tired freshState h in ((λ l. w .0), omega arith)
+        | no h ↦ ((λ l. absurd (omega arith)), rw (tiring-below 0 (omega arith)) (report-slot s g 0 (omega arith)))
+      ]
+  tiring-ends (suc t) =
+      elim (decLe n (suc t)) [
+        | yes h ↦ let e = tiring-ends t .1 in let w = tired (report (tiring n) s t .next) (omega arith) in ((λ l. w .0), omega arith)
+        | no h ↦ ((λ l. absurd (omega arith)), rw (tiring-below (suc t) (omega arith)) (report-slot s g (suc t) (omega arith)))
+      ]
+
+pub tiring-refuted : (n : ℕ) → n + 12 ≤ lastSlot → Promise (tiring n) → ⊥
+tiring-refuted n h =
+    silent-refuted (tiring n) n h (λ t. tiring-ends (setFrom p5) (text-passes (bytes p5) (premises .of-p5 .read)) n (omega arith) t .0)
+
+-- Document 01's own machine with bounds one less: flow 1 of P5 takes two slots, and no fewer.
+pub bounds-exact : PromiseWith (oneLess basics) (oneLess tights) stepOf → ⊥
+bounds-exact f =
+    let c = computed .of-p5 in
+    let a = c .releases in
+    let b = c .bounds in
+    unmade stepOf (setFrom p5) 1 0 (oneLess basics (setFrom p5) 1) (c .works .1) (λ t p h l i e. first t p (omega arith) i e)
+    (p5-kept (oneLess basics) (oneLess tights) stepOf f 1 (omega arith) .made 1 0 (omega (arith, c .flows)) (omega arith))
+  where
+    first : (t p : ℕ) → t < 1 → p < report stepOf (setFrom p5) t .sends → send (report stepOf (setFrom p5) t) p .flow ≡ 1 → ⊥
+    first t p h i e =
+        let c = computed .of-p5 .own in
+        let z : t ≡ 0 = omega arith in
+        let q : p ≡ 0 = omega (arith, ap (λ (u : ℕ). report stepOf (setFrom p5) u .sends) z) in
+        let y = rw (z, q) at e in
+        omega arith
+
+-- The machine that does not count channels: it sends two flows of P5 on one.
+pub crowded-refuted : Promise crowded → ⊥
+crowded-refuted f =
+    let c = computed .of-p5 in
+    omega (arith, p5-kept basics tights crowded f 1 (omega arith) .apart 0 (omega arith) .few, c .crowd, c .one-way)
+
+-- The machine that does not look at conflicts: in slot 0 of P7 it sends two flows that share node 2.
+pub reckless-refuted : Promise reckless → ⊥
+reckless-refuted f =
+    let c = computed .met in
+    let k = basic-kept p7 (premises .of-p7) basics tights reckless f 1 (omega arith) in
+    k .apart 0 (omega arith) .nodes 0 1 (omega arith) (omega arith) .2 (c .1)
+
+-- The machine that takes the latest deadline first: it drops the packet that is due after slot 1, of a set that the tightened test admits.
+pub backward-refuted : Promise backward → ⊥
+backward-refuted f =
+    let c = computed .lost in
+    let j = premises .of-tight in
+    let k = text-promise basics tights backward f (bytes tight) (j .read) 2 (omega arith) .1 (j .by-tightened) in
+    omega (arith, k .undropped 1 (omega arith))
+
+-- Two transmissions on one channel, one on a channel that is not the set's, one from a node to itself.
+pub crossed-refuted : Promise crossed → ⊥
+crossed-refuted f =
+    let c = computed .cross in
+    basic-kept p7 (premises .of-p7) basics tights crossed f 1 (omega arith) .apart 0 (omega arith) .once 0 1 (omega arith) (omega arith) (c .1)
+
+pub strayed-refuted : Promise strayed → ⊥
+strayed-refuted f =
+    let c = computed .of-p5 .stray in
+    false≢true (sym (c .1) ∙ p5-kept basics tights strayed f 1 (omega arith) .apart 0 (omega arith) .own 0 (omega arith))
+
+pub looped-refuted : Promise looped → ⊥
+looped-refuted f =
+    let c = computed .of-p5 .loop in p5-kept basics tights looped f 1 (omega arith) .apart 0 (omega arith) .ends 0 (omega arith) (c .1)
+
+-- P8's four transmissions fill its four slots, so the first comes in slot 0,
+p8-first : (M : FlowSet → State → Stepped) → Promise M
+    → (p : ℕ) × (p < report M (setFrom p8) 0 .sends) × Is (setFrom p8) 0 0 0 (send (report M (setFrom p8) 0) p)
+p8-first M f =
+    let c = computed .of-p8 in
+    let d = c .four in
+    let m = basic-kept p8 (premises .of-p8) basics tights M f 4 (omega arith) .made 0 0 (omega (arith, c .flows)) (omega arith) in
+    let e : m .at 0 ≡ 0 =
+    omega (
+      arith,
+      m .rising 0 1 (omega arith) (omega arith),
+      m .rising 1 2 (omega arith) (omega arith),
+      m .rising 2 3 (omega arith) (omega arith),
+      m .within 3 (omega arith),
+    ) in
+    rw e at (m .sent 0 (omega arith))
+
+-- where a report has one transmission, it is that
+p8-one : (M : FlowSet → State → Stepped) → Promise M → report M (setFrom p8) 0 .sends ≡ 1
+    → Is (setFrom p8) 0 0 0 (send (report M (setFrom p8) 0) 0)
+p8-one M f e =
+    let w = p8-first M f in
+    let p : w .0 ≡ 0 = omega arith in
+    rw p at (w .2)
+
+-- and it goes from node 1 to node 2, as try 0: not backwards, nor as try 1, nor over the second link.
+pub turned-refuted : Promise turned → ⊥
+turned-refuted f =
+    let c = computed .of-p8 in omega (arith, p8-one turned f (c .turn .0) .from, c .turn .1, c .starts .0)
+
+pub mistried-refuted : Promise mistried → ⊥
+mistried-refuted f =
+    let c = computed .of-p8 in omega (arith, p8-one mistried f (c .again .0) .which .2, c .again .1, c .starts .1)
+
+pub hurried-refuted : Promise hurried → ⊥
+hurried-refuted f =
+    let c = computed .of-p8 in omega (arith, p8-one hurried f (c .hurry .0) .from, c .hurry .1, c .starts .0)
