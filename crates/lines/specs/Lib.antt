@@ -1,0 +1,5 @@
+pub mod Places
+pub mod Answers
+pub mod Fields
+pub mod Digits
+pub mod Rows

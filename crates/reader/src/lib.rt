@@ -1,0 +1,135 @@
+// The reader: line by line, the first faulty line decides, and within it the lowest of 1 to 9.
+ghost use mathlib.Core.Path.{_≡_};
+ghost use Prim.Native.Nat.{_≤_};
+ghost use lib.ListN.{drop};
+ghost use Rattle.model.specs.Reader.{accepted, readFlows, readText, refusedReading};
+ghost use Rattle.model.specs.Text.{flowWord, lines, setWord};
+ghost use Rattle.lines.specs.Answers.{rowIn};
+ghost use Rattle.reader.specs.Judged.{firstRowFault, flowOfRow, flowRowFault, nodesOf, setWith};
+use lines::Row;
+use model::ChannelMap;
+use model::Fault;
+use model::Flow;
+use model::FlowSet;
+use model::Reading;
+use model::Refusal;
+use model::Span;
+
+// A refused reading returns the blank set.
+fn refused(refusal: Refusal, line: u32) -> Reading
+    ensures { λ r. ⌜ r ≡ refusedReading refusal line ⌝ }
+{
+    let fault = Fault { refusal, line };
+    let set = FlowSet::blank();
+    Reading { fault, set }
+}
+
+// The nodes among a flow line's numbers.
+fn route_of(numbers: [u16; Row::MOST]) -> [u16; Flow::MOST_NODES]
+    ensures { λ r. ⌜ r ≡ nodesOf numbers ⌝ }
+{
+    let mut route = [0u16; Flow::MOST_NODES];
+    let mut i = 0usize;
+    while i < Flow::MOST_NODES {
+        route[i] = numbers[4 + i];
+        i += 1;
+    }
+    route
+}
+
+// The first line's refusal: its form, then rule 2.
+fn first_fault(row: Row) -> Refusal
+    ensures { λ r. ⌜ r ≡ firstRowFault row ⌝ }
+{
+    if row.formed {
+        if row.count == 1 {
+            return rules::map_fault(row.numbers[0]);
+        }
+    }
+    Refusal::BadForm
+}
+
+// The refusal of the line of flow number k: its form, then rules 3 to 9.
+fn flow_fault(k: usize, row: Row) -> Refusal
+    ensures { λ r. ⌜ r ≡ flowRowFault k row ⌝ }
+{
+    if row.formed {
+        if 4 <= row.count {
+            let numbers = row.numbers;
+            let route = route_of(numbers);
+            return rules::flow_fault(k, numbers[0], numbers[1], numbers[3], row.count - 4, route);
+        }
+    }
+    Refusal::BadForm
+}
+
+// The flow of a line that has been judged.
+fn flow_of(row: Row) -> Flow
+    requires { ⌜ (4 ≤ row .count) × (row .count ≤ 21) ⌝ }
+    ensures { λ r. ⌜ r ≡ flowOfRow row ⌝ }
+{
+    let numbers = row.numbers;
+    let route = route_of(numbers);
+    Flow {
+        period: Span(numbers[0]),
+        deadline: Span(numbers[1]),
+        start: numbers[2],
+        tries: numbers[3],
+        nodes: (row.count - 4) as u16,
+        route,
+    }
+}
+
+// The line at a place as a flow's.
+fn flow_line(text: &[u8], at: usize) -> Row
+    ensures { λ r. ⌜ r ≡ rowIn flowWord at (drop at (now (text .entry))) ⌝ }
+{
+    lines::line_at(text, at, b"flow")
+}
+
+// The first line as a set's.
+fn set_line(text: &[u8]) -> Row
+    ensures { λ r. ⌜ r ≡ rowIn setWord 0 (now (text .entry)) ⌝ }
+{
+    lines::line_at(text, 0, b"set")
+}
+
+// The lines from a place on, each a flow of a set with this map.
+fn read_flows(text: &[u8], from: usize, map: u16) -> Reading
+    ensures { λ r. ⌜ r ≡ readFlows (setWith map) (lines (drop from (now (text .entry)))) ⌝ }
+{
+    let mut set = FlowSet::blank();
+    let channels = ChannelMap(map);
+    set.map = channels;
+    let mut at = from;
+    let mut k = 0usize;
+    while at < text.len() {
+        let row = flow_line(text, at);
+        let refusal = flow_fault(k, row);
+        if refusal.code() != 0 {
+            return refused(refusal, (k + 2) as u32);
+        }
+        let flow = flow_of(row);
+        set.flows[k] = flow;
+        k += 1;
+        set.count = k as u16;
+        at = row.next;
+    }
+    let fault = Fault {
+        refusal: Refusal::Nothing,
+        line: 0,
+    };
+    Reading { fault, set }
+}
+
+// A text's set, or the first faulty line with its lowest refusal and the blank set.
+pub fn read(text: &[u8]) -> Reading
+    ensures { λ r. ⌜ r ≡ readText (now (text .entry)) ⌝ }
+{
+    let row = set_line(text);
+    let refusal = first_fault(row);
+    if refusal.code() != 0 {
+        return refused(refusal, 1);
+    }
+    read_flows(text, row.next, row.numbers[0])
+}
