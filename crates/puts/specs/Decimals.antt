@@ -14,16 +14,16 @@ use Rattle.model.specs.Text.{decimalIn, decimal}
 abbrev pub tenDigits : ℕ
 tenDigits = 10000000000
 
-one-digit : (k n : ℕ) → n < 10 → decimalIn (suc k) n ≡ (48 + n) ∷ []
+pub one-digit : (k n : ℕ) → n < 10 → decimalIn (suc k) n ≡ (48 + n) ∷ []
 unfolding decimalIn
 one-digit k n h = rw (lt-ltb n 10 h)
 
-more-digits : (k n : ℕ) → 10 ≤ n → decimalIn (suc k) n ≡ decimalIn k (n / 10) ++ ((48 + n % 10) ∷ [])
+pub more-digits : (k n : ℕ) → 10 ≤ n → decimalIn (suc k) n ≡ decimalIn k (n / 10) ++ ((48 + n % 10) ∷ [])
 unfolding decimalIn
 more-digits k n h = rw (le-ltb n 10 h)
 
 -- the first number of more than k + 1 digits
-unfoldable top : ℕ → ℕ
+unfoldable pub top : ℕ → ℕ
 top zero = 10
 top (suc k) = top k * 10
 
@@ -56,7 +56,7 @@ pub record Counted (v n digits : ℕ) : Type 0 where
   pub small : n < tenDigits
   pub least : 1 ≤ length (decimal n)
 
-digits-least : (n : ℕ) → n < tenDigits → 1 ≤ length (decimal n)
+pub digits-least : (n : ℕ) → n < tenDigits → 1 ≤ length (decimal n)
 digits-least n h =
     elim (decLe 10 n) [
       | yes l ↦ omega (arith, decimal-size n l h)

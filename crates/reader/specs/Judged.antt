@@ -6,9 +6,11 @@ use lib.Dec.{leb, eqb}
 use lib.ListN.{length, getD, take, drop}
 use Rattle.model.specs.declared.kinds.Flow.{Flow}
 use Rattle.model.specs.declared.kinds.FlowSet.{FlowSet}
+use Rattle.model.specs.declared.answers.Reading.{Reading}
 use Rattle.model.specs.declared.answers.Refusal.{Refusal}
 use Rattle.model.specs.declared.answers.Refusal.the-variants.{BadForm}
 use Rattle.model.specs.Limits.{mostNodes}
+use Rattle.model.specs.Refusals.{faultAt}
 use Rattle.model.specs.Reader.{mapFault, flowFault, pad}
 use Rattle.model.specs.Sets.{blankSet}
 use Rattle.lines.specs.declared.reading.Row.{Row}
@@ -47,3 +49,7 @@ flowOfRow r =
 -- the set of a map and no flows
 abbrev pub setWith : ℕ → FlowSet
 setWith m = record { map = record { 0 = m }; count = 0; flows = blankSet .flows }
+
+-- an answer of these parts
+abbrev pub answerOf : Refusal → ℕ → FlowSet → Reading
+answerOf r n s = record { fault = faultAt r n; set = s }

@@ -25,7 +25,7 @@ use Rattle.lines.specs.declared.reading.Row.{Row}
 use Rattle.lines.specs.Answers.{mostNumbers, noRow, rowIf, rowIn}
 use Rattle.lines.specs.Places.{line, after}
 use Rattle.lines.specs.Fields.{lines-line, formed-line, numbers-line, drop-line}
-use Rattle.reader.specs.Judged.{numberAt, nodesOf, firstRowFault, flowRowFault, flowOfRow, setWith}
+use Rattle.reader.specs.Judged.{numberAt, nodesOf, firstRowFault, flowRowFault, flowOfRow, setWith, answerOf}
 use Rattle.reader.specs.Pads.{pad-at, pad-drop, pad-take}
 
 -- a line read after the flows of t, and the first line
@@ -203,9 +203,10 @@ module _ (s : List ℕ) (r : Reading) (at k : ℕ) (t : FlowSet) (inv : Lines s 
       ∙ sym (flow-judged k at (drop at s))
       ∙ sym (e ∙ ap (flowRowFault k) q)
 
-  pub lines-refused : (refusalNumber x ≡ 0 → ⊥) → refusedReading x (k + 2) ≡ r
-  lines-refused b =
-      sym
+  pub lines-refused : (b : FlowSet) → b ≡ blankSet → (refusalNumber x ≡ 0 → ⊥) → answerOf x (k + 2) b ≡ r
+  lines-refused u v b =
+      ap (answerOf x (k + 2)) v
+      ∙ sym
       (inv .left ∙ ap (readFlows t) next
       ∙ read-bad t (line (drop at s)) _ (subst (λ (y : Refusal). good y ≡ false) (sym judged) (ne-eqb (refusalNumber x) 0 b))
       ∙ rw (judged, inv .many))
@@ -240,12 +241,13 @@ unfolding readText
 first-lines b t = ap readLines (lines-line b t)
 
 pub first-refused : (s : List ℕ) (w : Row) → w ≡ rowIn setWord 0 s → (x : Refusal) → x ≡ firstRowFault w → (refusalNumber x ≡ 0 → ⊥)
-    → refusedReading x 1 ≡ readText s
+    → (u : FlowSet) → u ≡ blankSet → answerOf x 1 u ≡ readText s
 unfolding readText readLines lines rowIn wellFormed fields same
-first-refused [] w q x e b = ap (λ (y : Refusal). refusedReading y 1) (e ∙ ap firstRowFault q)
-first-refused (c ∷ t) w q x e b =
+first-refused [] w q x e b u v = ap (answerOf x 1) v ∙ ap (λ (y : Refusal). refusedReading y 1) (e ∙ ap firstRowFault q)
+first-refused (c ∷ t) w q x e b u v =
     let j = e ∙ ap firstRowFault q ∙ first-judged 0 (c ∷ t) in
-    sym
+    ap (answerOf x 1) v
+    ∙ sym
     (first-lines c t ∙ first-bad (line (c ∷ t)) _ (subst (λ (y : Refusal). good y ≡ false) j (ne-eqb (refusalNumber x) 0 b))
     ∙ ap (λ (y : Refusal). refusedReading y 1) (sym j))
 

@@ -2,10 +2,10 @@
 ghost use mathlib.Core.Path.{_≡_};
 ghost use Prim.Native.Nat.{_≤_};
 ghost use lib.ListN.{drop};
-ghost use Rattle.model.specs.Reader.{accepted, readFlows, readText, refusedReading};
+ghost use Rattle.model.specs.Reader.{readFlows, readText};
 ghost use Rattle.model.specs.Text.{flowWord, lines, setWord};
 ghost use Rattle.lines.specs.Answers.{rowIn};
-ghost use Rattle.reader.specs.Judged.{firstRowFault, flowOfRow, flowRowFault, nodesOf, setWith};
+ghost use Rattle.reader.specs.Judged.{answerOf, firstRowFault, flowOfRow, flowRowFault, nodesOf, setWith};
 use lines::Row;
 use model::ChannelMap;
 use model::Fault;
@@ -15,12 +15,11 @@ use model::Reading;
 use model::Refusal;
 use model::Span;
 
-// A refused reading returns the blank set.
-fn refused(refusal: Refusal, line: u32) -> Reading
-    ensures { λ r. ⌜ r ≡ refusedReading refusal line ⌝ }
+// The reader's answer; a refusal comes with the blank set.
+fn answer(refusal: Refusal, line: u32, set: FlowSet) -> Reading
+    ensures { λ r. ⌜ r ≡ answerOf refusal line set ⌝ }
 {
     let fault = Fault { refusal, line };
-    let set = FlowSet::blank();
     Reading { fault, set }
 }
 
@@ -98,8 +97,9 @@ fn set_line(text: &[u8]) -> Row
 fn read_flows(text: &[u8], from: usize, map: u16) -> Reading
     ensures { λ r. ⌜ r ≡ readFlows (setWith map) (lines (drop from (now (text .entry)))) ⌝ }
 {
-    let mut set = FlowSet::blank();
+    let blank = FlowSet::blank();
     let channels = ChannelMap(map);
+    let mut set = blank;
     set.map = channels;
     let mut at = from;
     let mut k = 0usize;
@@ -107,7 +107,7 @@ fn read_flows(text: &[u8], from: usize, map: u16) -> Reading
         let row = flow_line(text, at);
         let refusal = flow_fault(k, row);
         if refusal.code() != 0 {
-            return refused(refusal, (k + 2) as u32);
+            return answer(refusal, (k + 2) as u32, blank);
         }
         let flow = flow_of(row);
         set.flows[k] = flow;
@@ -115,11 +115,7 @@ fn read_flows(text: &[u8], from: usize, map: u16) -> Reading
         set.count = k as u16;
         at = row.next;
     }
-    let fault = Fault {
-        refusal: Refusal::Nothing,
-        line: 0,
-    };
-    Reading { fault, set }
+    answer(Refusal::Nothing, 0, set)
 }
 
 // A text's set, or the first faulty line with its lowest refusal and the blank set.
@@ -129,7 +125,7 @@ pub fn read(text: &[u8]) -> Reading
     let row = set_line(text);
     let refusal = first_fault(row);
     if refusal.code() != 0 {
-        return refused(refusal, 1);
+        return answer(refusal, 1, FlowSet::blank());
     }
     read_flows(text, row.next, row.numbers[0])
 }

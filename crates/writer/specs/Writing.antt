@@ -4,7 +4,7 @@ use mathlib.Core.Bool.{Bool, true, false, cond}
 use mathlib.Core.List.{List, [], _∷_, _++_, map, append-nil, append-assoc}
 use Prim.Native.Nat.{ℕ, zero, suc, _+_, _-_, _<_, _≤_, min, zero-le}
 use native.Mathlib.Decide.{decLe}
-use native.Mathlib.Nat.{zero-add}
+use native.Mathlib.Nat.{zero-add, le-refl}
 use native.Mathlib.Numerals.{add-one}
 use native.Mathlib.Omega.{arith}
 use lib.Dec.{ltb, eqb}
@@ -23,7 +23,7 @@ use Rattle.model.specs.Sets.{noFlow, flowAt, exact, used}
 use Rattle.model.specs.Reader.{flowNumbers, flowLines, recordFault, textOf, writeFault, writeAnswer, writeInto}
 use Rattle.model.specs.Text.{setWord, flowWord, lineOf}
 use Rattle.laws.specs.Used.{used-flow}
-use Rattle.puts.specs.Stores.{lastPlace, sets-append, Put, take-next}
+use Rattle.puts.specs.Stores.{lastPlace, sets-append, sets-out, Put, take-next}
 
 -- a route that is copied behind a flow's four numbers
 pub record Copied (o r out : List ℕ) (i : ℕ) : Type 0 where
@@ -112,22 +112,29 @@ module _ (s : FlowSet) (buffer : List ℕ) (f : Fault) (e : f ≡ recordFault s)
       let z = ne-eqb (refusalNumber (f .refusal)) 0 b in
       record { answer = rw (← e, z, z); bytes = rw (← e, z, z) }
 
-  pub write-short : (n : ℕ) → refusalNumber (f .refusal) ≡ 0 → n ≡ min (length (textOf s)) lastPlace → length buffer < n
-      → Answer s buffer record { fault = faultAt NoRoom 0; length = 0 } buffer
-  unfolding writeAnswer writeInto writeFault
-  write-short n b q h =
-      let z = eq-eqb (refusalNumber (f .refusal)) 0 b in
-      let y = lt-ltb (length buffer) (length (textOf s)) (omega arith) in
-      record { answer = rw (← e, z, y); bytes = rw (← e, z, y) }
+  -- the buffer is m by now, which is as it was
+  module _ (m : List ℕ) (q : m ≡ buffer) (n : ℕ) (b : refusalNumber (f .refusal) ≡ 0) (k : n ≡ min (length (textOf s)) (lastPlace - length buffer)) where
+    pub write-short : length m < n → Answer s buffer record { fault = faultAt NoRoom 0; length = 0 } m
+    unfolding writeAnswer writeInto writeFault
+    write-short h =
+        let z = eq-eqb (refusalNumber (f .refusal)) 0 b in
+        let y = lt-ltb (length buffer) (length (textOf s)) (omega (arith, ap length q)) in
+        record { answer = rw (← e, z, y); bytes = q ∙ rw (← e, z, y) }
 
-  pub write-done : (n : ℕ) → refusalNumber (f .refusal) ≡ 0 → n ≡ min (length (textOf s)) lastPlace → n ≤ length buffer → length buffer < lastPlace
-      → (out : List ℕ) (r : ℕ) → Put buffer 0 (textOf s) out r → Answer s buffer record { fault = noFault; length = n } out
-  unfolding writeAnswer writeInto writeFault
-  write-done n b q h l out r p =
-      let z = eq-eqb (refusalNumber (f .refusal)) 0 b in
-      let y = le-ltb (length buffer) (length (textOf s)) (omega arith) in
-      let m : n ≡ length (textOf s) = omega arith in
-      record {
-        answer = rw (← e, z, y, m);
-        bytes = rw (← e, z, y) (p .stored ∙ sets-eq (textOf s) buffer 0 (omega arith) ∙ rw (zero-add (length (textOf s))));
-      }
+    pub write-done : n ≤ length m → length m + length m < lastPlace → (out : List ℕ) (r : ℕ) → Put m 0 (textOf s) out r
+        → Answer s buffer record { fault = noFault; length = n } out
+    unfolding writeAnswer writeInto writeFault
+    write-done h l out r p =
+        let z = eq-eqb (refusalNumber (f .refusal)) 0 b in
+        let y = le-ltb (length buffer) (length (textOf s)) (omega (arith, ap length q)) in
+        let a : n ≡ length (textOf s) = omega (arith, ap length q) in
+        record {
+          answer = rw (← e, z, y, a);
+          bytes =
+              rw (← e, z, y)
+              (p .stored ∙ ap (λ (o : List ℕ). sets o 0 (textOf s)) q ∙ sets-eq (textOf s) buffer 0 (omega (arith, ap length q)) ∙ rw (zero-add (length (textOf s))));
+        }
+
+-- a text that is put where the buffer ends: nothing is stored, and the place after it tells its length
+pub length-found : (o t out : List ℕ) (r : ℕ) → Put o (length o) t out r → length o ≤ lastPlace → (out ≡ o) × (r - length o ≡ min (length t) (lastPlace - length o))
+length-found o t out r p h = (p .stored ∙ sets-out t o (length o) (le-refl (length o)), omega (arith, p .place))

@@ -1,11 +1,11 @@
 // The writer: the record check first, then the buffer's room, then the text and nothing else.
 ghost use mathlib.Core.Path.{_≡_};
-ghost use Prim.Native.Nat.{_+_, _≤_, min};
+ghost use Prim.Native.Nat.{_+_, _-_, _≤_, min};
 ghost use lib.ListN.{length};
 ghost use Rattle.model.specs.Reader.{flowLines, flowNumbers, textOf, writeAnswer, writeInto};
 ghost use Rattle.model.specs.Sets.{exact, used};
 ghost use Rattle.model.specs.Text.{flowWord, lineOf};
-ghost use Rattle.puts.specs.Stores.{Put};
+ghost use Rattle.puts.specs.Stores.{Put, lastPlace};
 use lines::Row;
 use model::Fault;
 use model::Flow;
@@ -81,21 +81,24 @@ fn put_flows(out: &mut [u8], at: usize, s: FlowSet) -> usize
     place
 }
 
-// A set's text from the buffer's start, as far as the buffer goes; the answer is its length.
-fn put_set(out: &mut [u8], s: FlowSet) -> usize
-    ensures { λ r. ⌜ Put (now (out .entry)) 0 (textOf (used s)) (now (out .exit)) r ⌝ }
+// A set's text from a place on, as far as the buffer goes; the answer is the place after it.
+fn put_set(out: &mut [u8], at: usize, s: FlowSet) -> usize
+    ensures { λ r. ⌜ Put (now (out .entry)) at (textOf (used s)) (now (out .exit)) r ⌝ }
 {
     let map = [wide(s.map.0); 1];
-    let at = puts::put_line(out, 0, b"set", &map);
-    put_flows(out, at, s)
+    let place = puts::put_line(out, at, b"set", &map);
+    put_flows(out, place, s)
 }
 
-// The length of a set's text: it is put into a buffer of no use.
-fn text_length(s: FlowSet) -> usize
-    ensures { λ r. ⌜ r ≡ min (length (textOf (used s))) 18446744073709551615 ⌝ }
+// The length of a set's text: it is put where the buffer ends, so that nothing is stored.
+fn text_length(out: &mut [u8], s: FlowSet) -> usize
+    ensures { λ r. ⌜
+        (now (out .exit) ≡ now (out .entry))
+        × (r ≡ min (length (textOf (used s))) (lastPlace - length (now (out .entry))))
+        ⌝ }
 {
-    let mut none = [0u8; 1];
-    put_set(&mut none, s)
+    let end = out.len();
+    put_set(out, end, s) - end
 }
 
 // Writes a set's text into the buffer, unless the record check or the room refuses it.
@@ -110,7 +113,7 @@ pub fn write(s: FlowSet, out: &mut [u8]) -> Written
     if refusal.code() != 0 {
         return Written { fault, length: 0 };
     }
-    let n = text_length(s);
+    let n = text_length(out, s);
     if out.len() < n {
         let none = Fault {
             refusal: Refusal::NoRoom,
@@ -121,7 +124,7 @@ pub fn write(s: FlowSet, out: &mut [u8]) -> Written
             length: 0,
         };
     }
-    put_set(out, s);
+    put_set(out, 0, s);
     let good = Fault {
         refusal: Refusal::Nothing,
         line: 0,

@@ -14,13 +14,16 @@ first-fault-requires c κs = search needs
 code-requires : tie.Need-code-requires
 code-requires c κs = search needs
 
-refused-requires : tie.Need-refused-requires
-refused-requires c κs = search needs
+blank-requires : tie.Need-blank-requires
+blank-requires c κs = search needs
+
+answer-requires : tie.Need-answer-requires
+answer-requires c κs = search needs
 
 returns : tie.Need-returns
 returns c =
-    c .refused .ensures
-    ∙ first-refused _ _ (c .before .before .before .before .set-line .ensures) _ (c .before .before .before .first-fault .ensures) (λ q. c .before .if1 .taken (c .before .before .code .ensures ∙ q))
+    c .answer .ensures
+    ∙ first-refused _ _ (c .before .before .before .before .before .set-line .ensures) _ (c .before .before .before .before .first-fault .ensures) (λ q. c .before .before .if1 .taken (c .before .before .before .code .ensures ∙ q)) _ (c .before .blank .ensures)
 
 element-copy-out-read-flows : tie.Need-element-copy-out-read-flows
 element-copy-out-read-flows c = search needs
@@ -40,7 +43,8 @@ read-spec =
     set-line-requires
     first-fault-requires
     code-requires
-    refused-requires
+    blank-requires
+    answer-requires
     returns
     element-copy-out-read-flows
     read-flows-requires

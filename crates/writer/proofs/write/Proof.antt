@@ -18,21 +18,26 @@ returns c = let a = write-refused _ _ _ (c .before .before .record-fault .ensure
 text-length-requires : tie.Need-text-length-requires
 text-length-requires c κs = search needs
 
+same-length : tie.Need-same-length
+same-length c = search needs
+
 returns-2 : tie.Need-returns-2
 returns-2 c =
-    let a = write-short _ _ _ (c .before .before .before .before .record-fault .ensures) _ (sym (c .before .before .before .code .ensures) ∙ c .before .before .if1 .left) (c .before .text-length .ensures) (c .if2 .taken) in
+    let t = c .before .before .before .text-length .ensures in
+    let a = write-short _ _ _ (c .before .before .before .before .before .before .before .record-fault .ensures) _ (t .0) _ (sym (c .before .before .before .before .before .before .code .ensures) ∙ c .before .before .before .before .before .if1 .left) (t .1) (c .if2 .taken) in
     (a .answer, a .bytes)
 
 put-set-requires : tie.Need-put-set-requires
 put-set-requires c κs = search needs
 
-same-length : tie.Need-same-length
-same-length c = search needs
+same-length-2 : tie.Need-same-length-2
+same-length-2 c = search needs
 
 returns-3 : tie.Need-returns-3
 returns-3 c =
+    let t = c .before .before .before .before .before .before .before .text-length .ensures in
     let a =
-    write-done _ _ _ (c .before .before .before .before .before .before .before .before .record-fault .ensures) _ (sym (c .before .before .before .before .before .before .before .code .ensures) ∙ c .before .before .before .before .before .before .if1 .left) (c .before .before .before .before .before .text-length .ensures) (c .before .before .before .before .if2 .left)
+    write-done _ _ _ (c .before .before .before .before .before .before .before .before .before .before .before .record-fault .ensures) _ (t .0) _ (sym (c .before .before .before .before .before .before .before .before .before .before .code .ensures) ∙ c .before .before .before .before .before .before .before .before .before .if1 .left) (t .1) (c .before .before .before .before .if2 .left)
     (omega arith) _ _ (c .before .before .put-set .ensures) in
     (a .answer, a .bytes)
 
@@ -44,7 +49,8 @@ write-spec =
     code-requires
     returns
     text-length-requires
+    same-length
     returns-2
     put-set-requires
-    same-length
+    same-length-2
     returns-3)

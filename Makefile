@@ -1,0 +1,22 @@
+# Everything is built by the Rattle kit's `rt`, which proves what it builds. See README.md.
+PREFIX ?= /usr/local
+DESTDIR ?=
+
+.PHONY: all test install
+
+all:
+	rt check
+
+test: all
+	tests/plan/run
+	tests/host/run
+	tests/install/run
+
+# The header, the archive and a pkg-config file, for a C host. From a fresh clone: make install PREFIX=..
+install:
+	rt staticlib planner
+	install -d "$(DESTDIR)$(PREFIX)/include" "$(DESTDIR)$(PREFIX)/lib/pkgconfig"
+	install -m 644 include/rembasuk.h "$(DESTDIR)$(PREFIX)/include/rembasuk.h"
+	install -m 644 target/staticlib/libplanner.a "$(DESTDIR)$(PREFIX)/lib/librembasuk.a"
+	sed 's|@PREFIX@|$(PREFIX)|' include/rembasuk.pc.in > "$(DESTDIR)$(PREFIX)/lib/pkgconfig/rembasuk.pc"
+	chmod 644 "$(DESTDIR)$(PREFIX)/lib/pkgconfig/rembasuk.pc"

@@ -1,0 +1,3 @@
+pub mod Routes
+pub mod Fill
+pub mod Checked

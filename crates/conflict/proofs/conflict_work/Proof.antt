@@ -1,0 +1,26 @@
+use mathlib.Core.Path.{ap}
+use Prim.Native.Nat.{ℕ, _*_}
+use native.Mathlib.Nat.{mul-le-mul, lt-of-le-of-lt}
+use lib.Dec.{lit<}
+use Rattle.model.specs.Delay.{conflictWork}
+use borrow.Author.Needs.{needs}
+use Rattle.conflict.proofs.conflict_work.Statement.{statement}
+use Rattle.conflict.proofs.conflict_work.Tie as tie
+use Rattle.conflict.proofs.conflict_work.Reads as reads
+use Rattle.conflict.proofs.conflict_work.Lts as lts
+use Rattle.conflict.proofs.links_touched.Reads as links-touched-reads
+
+links-touched-requires : tie.Need-links-touched-requires
+links-touched-requires c κs = search needs
+
+mul-result : tie.Need-mul-result
+mul-result c = record { fits = lt-of-le-of-lt (mul-le-mul (c .before .before .pre .0 .2) (c .before .links-touched .ensures .1)) (lit< tt) }
+
+returns : tie.Need-returns
+unfolding conflictWork
+returns c =
+    let l = c .before .before .args .l in
+    (ap (λ (x : ℕ). l .tries * x) (c .before .links-touched .ensures .0), mul-le-mul (c .before .before .pre .0 .2) (c .before .links-touched .ensures .1))
+
+pub conflict-work-spec : {M : Type 1} → statement M
+conflict-work-spec = tie.close (tie.spec links-touched-requires mul-result returns)

@@ -1,0 +1,94 @@
+// What C calls: the verdict, one flow's bounds and one slot, over a set's text.
+ghost use mathlib.Core.Path.{_≡_};
+ghost use lib.ListN.{length};
+ghost use Rattle.model.specs.Reader.{readText};
+ghost use Rattle.model.specs.Program.{slotState, slotBuffer};
+ghost use Rattle.planner.specs.ForC.{verdictForC, boundsForC, slotForC};
+
+mod reading;
+
+pub use plan_text::plan;
+
+#[repr(C)]
+pub struct VerdictAnswer {
+    pub refusal: u32,
+    pub line: u32,
+    pub basic: u32,
+    pub tightened: u32,
+    pub rounds: u32,
+}
+
+#[repr(C)]
+pub struct BoundsAnswer {
+    pub refusal: u32,
+    pub line: u32,
+    pub work: u32,
+    pub basic: u32,
+    pub tightened: u32,
+    pub deadline: u32,
+    pub margin: i32,
+}
+
+#[repr(C)]
+pub struct SlotAnswer {
+    pub refusal: u32,
+    pub line: u32,
+    pub length: usize,
+}
+
+// Both verdicts of the set in `text`; a text that is refused has the reader's refusal and line, and zeros.
+#[no_mangle]
+pub extern "C" fn rembasuk_verdict(text: &[u8]) -> VerdictAnswer
+    ensures { λ r. ⌜ r ≡ verdictForC (now (text .entry)) ⌝ }
+{
+    let reading = text::read(text);
+    let v = reading::verdict(reading);
+    let fault = v.fault;
+    let refusal = fault.refusal;
+    VerdictAnswer {
+        refusal: refusal.code() as u32,
+        line: fault.line,
+        basic: reading::bit(v.basic),
+        tightened: reading::bit(v.tightened),
+        rounds: v.rounds,
+    }
+}
+
+// The bounds of one flow of the set in `text`: the text's refusals, then 13.
+#[no_mangle]
+pub extern "C" fn rembasuk_bounds(text: &[u8], flow: u32) -> BoundsAnswer
+    ensures { λ r. ⌜ r ≡ boundsForC (now (text .entry)) flow ⌝ }
+{
+    let reading = text::read(text);
+    let b = reading::bounds(reading, flow);
+    let fault = b.fault;
+    let refusal = fault.refusal;
+    BoundsAnswer {
+        refusal: refusal.code() as u32,
+        line: fault.line,
+        work: b.work,
+        basic: b.basic,
+        tightened: b.tightened,
+        deadline: b.deadline.0 as u32,
+        margin: b.margin,
+    }
+}
+
+// One slot of the set in `text`: the next state over the 68 bytes, the slot's `send` lines at the start of `lines`.
+// The text's refusals, then 12, 11 and 10; a refusal changes neither.
+#[no_mangle]
+pub extern "C" fn rembasuk_slot(text: &[u8], state: &mut [u8], lines: &mut [u8]) -> SlotAnswer
+    ensures { λ r. ⌜ r ≡ slotForC (now (text .entry)) (now (state .entry)) (length (now (lines .entry))) ⌝ }
+    ensures { λ r. ⌜ now (state .exit) ≡ slotState (readText (now (text .entry))) (now (state .entry)) (length (now (lines .entry))) ⌝ }
+    ensures { λ r. ⌜ now (lines .exit) ≡ slotBuffer (readText (now (text .entry))) (now (state .entry)) (now (lines .entry)) ⌝ }
+{
+    let reading = text::read(text);
+    let w = written_slot::slot(reading, state, lines);
+    let fault = w.fault;
+    let refusal = fault.refusal;
+    SlotAnswer {
+        refusal: refusal.code() as u32,
+        line: fault.line,
+        length: w.length,
+    }
+}

@@ -1,0 +1,70 @@
+use Prim.Native.Nat.{_≤_}
+use native.Mathlib.Omega.{arith}
+use lib.ListN.{length}
+use Rattle.printing.specs.Margins.{boundText}
+use Rattle.puts.specs.Stores.{put-put, lastPlace}
+use borrow.Author.Needs.{needs}
+use Rattle.printing.proofs.bounds.put_bound.Statement.{statement}
+use Rattle.printing.proofs.bounds.put_bound.Tie as tie
+use Rattle.printing.proofs.bounds.put_bound.Reads as reads
+use Rattle.printing.proofs.bounds.put_bound.Lts as lts
+use Rattle.printing.proofs.bounds.put_margin.Reads as put-margin-reads
+use Rattle.puts.proofs.put_byte.Reads as put-byte-reads
+use Rattle.puts.proofs.put_fields.Reads as put-fields-reads
+use Rattle.puts.proofs.put_word.Reads as put-word-reads
+
+-- src/bounds.rt:25:20
+cast-deadline : tie.Need-cast-deadline
+cast-deadline c = search needs
+
+-- src/bounds.rt:27:41
+slice-aggregate-put-word : tie.Need-slice-aggregate-put-word
+slice-aggregate-put-word c = search needs
+
+-- src/bounds.rt:27:9
+put-word-requires : tie.Need-put-word-requires
+put-word-requires c κs = search needs
+
+-- src/bounds.rt:28:47
+slice-aggregate-put-fields : tie.Need-slice-aggregate-put-fields
+slice-aggregate-put-fields c = search needs
+
+-- src/bounds.rt:28:9
+put-fields-requires : tie.Need-put-fields-requires
+put-fields-requires c κs = search needs
+
+-- src/bounds.rt:29:9
+put-margin-requires : tie.Need-put-margin-requires
+put-margin-requires c κs = search needs
+
+-- src/bounds.rt:30:5
+put-byte-requires : tie.Need-put-byte-requires
+put-byte-requires c κs = search needs
+
+-- src/bounds.rt:21:1
+same-length : tie.Need-same-length
+same-length c = search needs
+
+-- src/bounds.rt:21:1
+returns : tie.Need-returns
+unfolding boundText
+returns c =
+    let a = c .before .before .before .before .before .before .before .before .before .before .before .before .before .before .before .before .before .before .before .before .before .args in
+    let h : length (a .out .now) ≤ lastPlace = omega arith in
+    put-put _ _ _ _ _ _ _ _ h
+    (put-put _ _ _ _ _ _ _ _ h (put-put _ _ _ _ _ _ _ _ h (c .before .before .before .before .before .before .before .before .before .before .before .before .before .before .before .put-word .ensures) (c .before .before .before .before .before .before .before .before .before .before .put-fields .ensures)) (c .before .before .before .before .before .before .put-margin .ensures))
+    (c .before .before .put-byte .ensures)
+
+pub put-bound-spec : {M : Type 1} → statement M
+put-bound-spec =
+    tie.close
+    (tie.spec
+    cast-deadline
+    slice-aggregate-put-word
+    put-word-requires
+    slice-aggregate-put-fields
+    put-fields-requires
+    put-margin-requires
+    put-byte-requires
+    same-length
+    returns)

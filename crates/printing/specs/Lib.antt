@@ -1,0 +1,5 @@
+pub mod Codes
+pub mod Sends
+pub mod Lengths
+pub mod Margins
+pub mod Steps

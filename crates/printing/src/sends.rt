@@ -1,0 +1,50 @@
+// The `send` lines of a slot.
+ghost use Prim.Native.Nat.{_≤_, min};
+ghost use mathlib.Core.Path.{_≡_};
+ghost use lib.ListN.{take};
+ghost use Rattle.model.specs.Text.{lineOf};
+ghost use Rattle.model.specs.Program.{sendLines, sendNumbers, sendWord};
+ghost use Rattle.puts.specs.Stores.{Put};
+use model::ChannelMap;
+use model::Send;
+
+fn put_send(out: &mut [u8], at: usize, x: Send) -> usize
+    ensures { λ r. ⌜ Put (now (out .entry)) at (lineOf sendWord (sendNumbers x)) (now (out .exit)) r ⌝ }
+{
+    let numbers = [
+        x.slot.0,
+        x.flow as u32,
+        x.from as u32,
+        x.to as u32,
+        x.attempt as u32,
+        x.channel as u32,
+    ];
+    puts::put_line(out, at, b"send", &numbers)
+}
+
+// How many sends there are: none beyond the array.
+fn number_of(n: u16) -> usize
+    ensures { λ r. ⌜ (r ≡ min n 16) × (r ≤ 16) ⌝ }
+{
+    let m = n as usize;
+    if m <= ChannelMap::MOST {
+        m
+    } else {
+        ChannelMap::MOST
+    }
+}
+
+// The lines of the first n sends.
+pub fn put_sends(out: &mut [u8], at: usize, sent: [Send; ChannelMap::MOST], n: u16) -> usize
+    ensures { λ r. ⌜ Put (now (out .entry)) at (sendLines (take n sent)) (now (out .exit)) r ⌝ }
+{
+    let m = number_of(n);
+    let mut place = at;
+    let mut i: usize = 0;
+    while i < m {
+        let x = sent[i];
+        place = put_send(out, place, x);
+        i += 1;
+    }
+    place
+}

@@ -1,0 +1,16 @@
+-- `told_ran` changes the fault alone. Assumes nothing.
+use mathlib.Core.Path.{ap}
+use Rattle.probe.specs.declared.ProbeFault.{ProbeFault}
+use Rattle.probe.specs.Told.{withRan}
+use borrow.Author.Needs.{needs}
+use Rattle.probe.proofs.told_ran.Statement.{statement}
+use Rattle.probe.proofs.told_ran.Tie as tie
+
+told-requires : tie.Need-told-requires
+told-requires c κs = search needs
+
+returns : tie.Need-returns
+returns c = ap (λ (f : ProbeFault). withRan f (c .before .before .args .a)) (c .told .ensures)
+
+pub told-ran-spec : {M : Type 1} → statement M
+told-ran-spec = tie.close (tie.spec told-requires returns)

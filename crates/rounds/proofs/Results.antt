@@ -1,0 +1,132 @@
+-- From the values at the first and at the last list to the bounds and the verdicts, and to the answer for all flows.
+use mathlib.Core.Path.{_≡_, refl, sym, ap, _∙_}
+use mathlib.Core.Bool.{Bool, true, false}
+use mathlib.Core.List.{List}
+use Prim.Native.Nat.{ℕ, _≤_, _<_}
+use native.Mathlib.Nat.{le-trans, le-of-eq}
+use native.Mathlib.Decide.{decLe}
+use native.Mathlib.Omega.{arith}
+use borrow.Author.Tests.{le-leb, lt-leb}
+use lib.ListN.{getD, take, replicate, length-replicate}
+use lib.Seq.{getD-take}
+use Rattle.model.specs.declared.kinds.FlowSet.{FlowSet}
+use Rattle.model.specs.declared.answers.Fault.{Fault}
+use Rattle.model.specs.declared.answers.Verdict.{Verdict}
+use Rattle.model.specs.declared.answers.Bounds.{Bounds}
+use Rattle.model.specs.declared.answers.Refusal.the-variants.{NoSuchFlow}
+use Rattle.model.specs.Limits.{mostFlows}
+use Rattle.model.specs.Refusals.{good, faultAt, noFault}
+use Rattle.model.specs.Reader.{recordFault}
+use Rattle.model.specs.Delay.{basicBound, valueAt, reached, tightBound, verdictIf, verdictOf, boundsFault, boundsIf, boundsOf, deadlines}
+use Rattle.greatest.specs.Values.{value-ext, value-at-deadlines, deadlines-entry}
+use Rattle.conflict.specs.Grid.{FilledTo}
+use Rattle.conflict.specs.Judged.{judged, judged-good}
+use Rattle.conflict.proofs.Fill.{zeros}
+use Rattle.shares.specs.declared.Tables.{Tables}
+use Rattle.shares.specs.Tables.{Tabled}
+use Rattle.rounds.specs.Answers.{refusedBounds, AllBoundsOf}
+use Rattle.rounds.specs.Steps.{ValuesTo, JudgedAs}
+
+-- the tables of a set that is not refused
+pub tabled-good : (s : FlowSet) (t : Tables) → good (recordFault s .refusal) ≡ true → Tabled (judged s) t → Tabled s t
+tabled-good s t e o = rw (judged-good s e) at o
+
+-- the value at the table of deadlines is the basic bound
+pub basic-carried : (s : FlowSet) (t : Tables) → Tabled s t → (k : ℕ) → valueAt s (t .deadline) k ≡ basicBound s k
+basic-carried s t o k =
+    value-ext s (t .deadline) (deadlines s) k (λ l h. o .deadlines .entry l h ∙ sym (deadlines-entry s l h)) ∙ value-at-deadlines s k
+
+-- the value at the last list is the tightened bound
+pub tight-carried : (s : FlowSet) (v : List ℕ) → take (s .count) v ≡ reached s .list → (k : ℕ) → valueAt s v k ≡ tightBound s k
+unfolding tightBound
+tight-carried s v e k =
+    value-ext s v (reached s .list) k (λ l h. sym (getD-take (s .count) v l 0 h) ∙ ap (λ (u : List ℕ). getD u l 0) e)
+
+pub values-ext : (f g : ℕ → ℕ) (n : ℕ) (x : List ℕ) → ((k : ℕ) → f k ≡ g k) → ValuesTo f n x → ValuesTo g n x
+values-ext f g n x e o =
+    record {
+      entries = record { whole = o .entries .whole; entry = λ i h. o .entries .entry i h ∙ e i; none = o .entries .none };
+      small = λ i h. le-trans (le-of-eq (sym (e i))) (o .small i h);
+    }
+
+-- the two answers of a verdict
+pub verdict-good : (s : FlowSet) → good (recordFault s .refusal) ≡ true → verdictOf s ≡ verdictIf s true
+unfolding verdictOf
+verdict-good s e = rw e
+
+pub verdict-bad : (s : FlowSet) → good (recordFault s .refusal) ≡ false → verdictOf s ≡ verdictIf s false
+unfolding verdictOf
+verdict-bad s e = rw e
+
+-- the fault of a bound: the record's, 13, or none
+fault-record : (s : FlowSet) (k : ℕ) → good (recordFault s .refusal) ≡ false → boundsFault s k ≡ recordFault s
+unfolding boundsFault
+fault-record s k e = rw e
+
+fault-none : (s : FlowSet) (k : ℕ) → good (recordFault s .refusal) ≡ true → s .count ≤ k → boundsFault s k ≡ faultAt NoSuchFlow 0
+unfolding boundsFault
+fault-none s k e h = rw (e, le-leb (s .count) k h)
+
+fault-free : (s : FlowSet) (k : ℕ) → good (recordFault s .refusal) ≡ true → k < s .count → boundsFault s k ≡ noFault
+unfolding boundsFault
+fault-free s k e h = rw (e, lt-leb (s .count) k h)
+
+-- and the answer by it
+bounds-by : (s : FlowSet) (k : ℕ) (f : Fault) (b : Bool) → boundsFault s k ≡ f → good (f .refusal) ≡ b → boundsOf s k ≡ boundsIf s k b
+unfolding boundsOf
+bounds-by s k f b p q = ap (λ (g : Fault). boundsIf s k (good (g .refusal))) p ∙ ap (boundsIf s k) q
+
+pub bounds-refused : (s : FlowSet) (k : ℕ) (f : Fault) → good (recordFault s .refusal) ≡ false → f ≡ recordFault s → refusedBounds f ≡ boundsOf s k
+bounds-refused s k f e p =
+    let q = fault-record s k e in
+    ap refusedBounds (p ∙ sym q) ∙ sym (bounds-by s k (recordFault s) false q e)
+
+pub bounds-none : (s : FlowSet) (k : ℕ) → good (recordFault s .refusal) ≡ true → s .count ≤ k → refusedBounds (faultAt NoSuchFlow 0) ≡ boundsOf s k
+bounds-none s k e h =
+    let q = fault-none s k e h in
+    ap refusedBounds (sym q) ∙ sym (bounds-by s k (faultAt NoSuchFlow 0) false q refl)
+
+pub bounds-given : (s : FlowSet) (k : ℕ) → good (recordFault s .refusal) ≡ true → k < s .count → boundsIf s k true ≡ boundsOf s k
+bounds-given s k e h = sym (bounds-by s k noFault true (fault-free s k e h) refl)
+
+-- the answer for all flows, of a refused set and of one that is judged
+pub all-refused : (s : FlowSet) (f : Fault) → good (recordFault s .refusal) ≡ false → f ≡ recordFault s
+    → AllBoundsOf s record { fault = f; basic = replicate mostFlows 0; tightened = replicate mostFlows 0; rounds = 0 }
+all-refused s f e p =
+    let v = verdict-bad s e in
+    let b : (k : ℕ) → refusedBounds f ≡ boundsOf s k = λ k. bounds-refused s k f e p in
+    record {
+      fault = p ∙ sym (ap (λ (x : Verdict). x .fault) v);
+      rounds = sym (ap (λ (x : Verdict). x .rounds) v);
+      basic-length = length-replicate {A = ℕ} mostFlows 0;
+      tight-length = length-replicate {A = ℕ} mostFlows 0;
+      basics = λ k. zeros mostFlows k ∙ ap (λ (x : Bounds). x .basic) (b k);
+      tights = λ k. zeros mostFlows k ∙ ap (λ (x : Bounds). x .tightened) (b k);
+      small = λ k. omega (arith, ap (λ (x : Bounds). x .tightened) (b k));
+    }
+
+pub all-given : (s : FlowSet) (f : Fault) (b t : List ℕ) (n : ℕ) → good (recordFault s .refusal) ≡ true → f ≡ noFault → JudgedAs s b t n
+    → AllBoundsOf s record { fault = f; basic = b; tightened = t; rounds = n }
+all-given s f b t n e p j =
+    let v = verdict-good s e in
+    record {
+      fault = p ∙ sym (ap (λ (x : Verdict). x .fault) v);
+      rounds = j .rounds ∙ sym (ap (λ (x : Verdict). x .rounds) v);
+      basic-length = j .basics .entries .whole;
+      tight-length = j .tights .entries .whole;
+      basics = λ k. elim (decLe (s .count) k) [
+        | yes h ↦ j .basics .entries .none k h ∙ ap (λ (x : Bounds). x .basic) (bounds-none s k e h)
+        | no h ↦ let l : k < s .count = omega arith in
+            j .basics .entries .entry k l ∙ ap (λ (x : Bounds). x .basic) (bounds-given s k e l)
+      ];
+      tights = λ k. elim (decLe (s .count) k) [
+        | yes h ↦ j .tights .entries .none k h ∙ ap (λ (x : Bounds). x .tightened) (bounds-none s k e h)
+        | no h ↦ let l : k < s .count = omega arith in
+            j .tights .entries .entry k l ∙ ap (λ (x : Bounds). x .tightened) (bounds-given s k e l)
+      ];
+      small = λ k. elim (decLe (s .count) k) [
+        | yes h ↦ omega (arith, ap (λ (x : Bounds). x .tightened) (bounds-none s k e h))
+        | no h ↦ let l : k < s .count = omega arith in
+            omega (arith, ap (λ (x : Bounds). x .tightened) (bounds-given s k e l), j .tights .small k l)
+      ];
+    }

@@ -1,0 +1,17 @@
+use native.Mathlib.Nat.{mul-le-mul, lt-of-le-of-lt}
+use mathlib.Core.Path.{refl}
+use lib.Dec.{lit<}
+use borrow.Author.Needs.{needs}
+use Rattle.shares.proofs.times.Statement.{statement}
+use Rattle.shares.proofs.times.Tie as tie
+use Rattle.shares.proofs.times.Reads as reads
+use Rattle.shares.proofs.times.Lts as lts
+
+mul-result : tie.Need-mul-result
+mul-result c = record { fits = lt-of-le-of-lt (mul-le-mul (c .pre .0) (c .pre .1)) (lit< tt) }
+
+returns : tie.Need-returns
+returns c = (refl, mul-le-mul (c .pre .0) (c .pre .1))
+
+pub times-spec : {M : Type 1} → statement M
+times-spec = tie.close (tie.spec mul-result returns)

@@ -1,0 +1,80 @@
+-- `restart` gives what each flow's packet has had in turn. Assumes nothing.
+use Rattle.machinery.specs.Dues.{hadIn}
+use Rattle.machinery.specs.Lists.{Through, through-none, through-next}
+use lib.ListN.{getD, length}
+use native.Mathlib.Nat.{le-refl}
+use native.Mathlib.Omega.{arith}
+use Prim.Native.Nat.{ℕ, _-_, _≤_}
+use mathlib.Core.Path.{_≡_, ap, _∙_}
+use borrow.Author.Needs.{needs}
+use Rattle.table.proofs.restart.Statement.{statement}
+use Rattle.table.proofs.restart.Tie as tie
+
+abbrev Inv-loop : tie.InvT-loop
+Inv-loop count t deadline due sent₀ k₀ sent k = (k ≤ count) × Through (λ j. hadIn (getD due j 0) (getD deadline j 0) t (getD sent₀ j 0)) k sent₀ sent
+
+abbrev μ-loop : tie.MeasureT-loop
+μ-loop count t deadline due sent₀ k₀ sent k = count - k
+
+loop-holds : tie.Need-loop-holds Inv-loop μ-loop
+loop-holds c = (search needs, through-none _ _)
+
+mul-had-of : tie.Need-mul-had-of Inv-loop μ-loop
+mul-had-of c = search needs
+
+element-copy-out-had-of : tie.Need-element-copy-out-had-of Inv-loop μ-loop
+element-copy-out-had-of c = search needs
+
+mul-had-of-2 : tie.Need-mul-had-of-2 Inv-loop μ-loop
+mul-had-of-2 c = search needs
+
+element-copy-out-had-of-2 : tie.Need-element-copy-out-had-of-2 Inv-loop μ-loop
+element-copy-out-had-of-2 c = search needs
+
+element-copy-out-had-of-3 : tie.Need-element-copy-out-had-of-3 Inv-loop μ-loop
+element-copy-out-had-of-3 c = search needs
+
+had-of-requires : tie.Need-had-of-requires Inv-loop μ-loop
+had-of-requires c κs =
+    let p = c .before .before .before .before .before .pre in
+    (p .1 (c .before .before .before .before .loop .k) (search needs), p .0 .1)
+
+element-write-sent : tie.Need-element-write-sent Inv-loop μ-loop
+element-write-sent c = search needs
+
+add-k : tie.Need-add-k Inv-loop μ-loop
+add-k c = search needs
+
+loop-less : tie.Need-loop-less Inv-loop μ-loop
+loop-less c = search needs
+
+loop-again : tie.Need-loop-again Inv-loop μ-loop
+loop-again c =
+    let v = c .before .before .before .before .before .loop in
+    let a = c .before .before .before .before .before .before .args in
+    let e = c .had-of .ensures ∙ ap (λ (n : ℕ). hadIn (getD (a .due .now) (v .k) 0) (getD (a .deadline .now) (v .k) 0) (a .t) n) (v .inv .1 .above (v .k) (le-refl (v .k))) in
+    (search needs, through-next _ (v .k) _ _ _ (omega arith) e (v .inv .1))
+
+returns : tie.Need-returns Inv-loop μ-loop
+returns c =
+    let e : c .before .loop .k ≡ c .before .before .args .count = search needs in
+    rw (← e) (c .before .loop .inv .1)
+
+pub restart-spec : {M : Type 1} → statement M
+restart-spec =
+    tie.close
+    (tie.spec
+    Inv-loop
+    μ-loop
+    loop-holds
+    mul-had-of
+    element-copy-out-had-of
+    mul-had-of-2
+    element-copy-out-had-of-2
+    element-copy-out-had-of-3
+    had-of-requires
+    element-write-sent
+    add-k
+    loop-less
+    loop-again
+    returns)

@@ -1,0 +1,139 @@
+-- `tables` gives each flow's numbers in turn; C fits a byte since the set is accepted. Assumes nothing.
+use Rattle.machinery.specs.Dues.{work-le-64, accepted-count, accepted-flow}
+use Rattle.machinery.specs.Lists.{Through, through-none, through-next, through-all, set-le}
+use Rattle.laws.specs.Used.{used-flow}
+use Rattle.model.specs.Delay.{work, workAt}
+use Rattle.model.specs.Sets.{flowAt, used}
+use Rattle.model.specs.declared.kinds.Flow.{Flow}
+use lib.ListN.{getD, length}
+use native.Mathlib.Omega.{arith}
+use Prim.Native.Nat.{ℕ, _-_, _*_, _≤_, _<_}
+use mathlib.Core.Path.{_≡_, sym, ap, _∙_}
+use borrow.Author.Needs.{needs}
+use Rattle.table.proofs.tables.Statement.{statement}
+use Rattle.table.proofs.tables.Tie as tie
+
+abbrev Inv-loop : tie.InvT-loop
+Inv-loop start₀ period₀ deadline₀ work₀ s count k₀ start period deadline work k =
+    (k ≤ count) × (count ≤ 64)
+    × Through (λ j. flowAt (used s) j .start) k start₀ start
+    × Through (λ j. flowAt (used s) j .period .0) k period₀ period
+    × Through (λ j. flowAt (used s) j .deadline .0) k deadline₀ deadline
+    × Through (λ j. workAt (used s) j) k work₀ work
+    × ((j : ℕ) → j < k → getD start j 0 ≤ 65535)
+    × ((j : ℕ) → j < k → getD deadline j 0 ≤ 65535)
+
+abbrev μ-loop : tie.MeasureT-loop
+μ-loop start₀ period₀ deadline₀ work₀ s count k₀ start period deadline work k = count - k
+
+cast-count : tie.Need-cast-count Inv-loop μ-loop
+cast-count c = search needs
+
+loop-holds : tie.Need-loop-holds Inv-loop μ-loop
+loop-holds c =
+    (search needs, accepted-count (c .args .t1) (c .pre .0), through-none _ _, through-none _ _, through-none _ _, through-none _ _, λ j h. absurd (omega arith), λ j h. absurd (omega arith))
+
+mul-f : tie.Need-mul-f Inv-loop μ-loop
+mul-f c = search needs
+
+element-copy-out-f : tie.Need-element-copy-out-f Inv-loop μ-loop
+element-copy-out-f c = search needs
+
+cast-start : tie.Need-cast-start Inv-loop μ-loop
+cast-start c = search needs
+
+mul-start : tie.Need-mul-start Inv-loop μ-loop
+mul-start c = search needs
+
+element-write-start : tie.Need-element-write-start Inv-loop μ-loop
+element-write-start c = search needs
+
+cast-period : tie.Need-cast-period Inv-loop μ-loop
+cast-period c = search needs
+
+mul-period : tie.Need-mul-period Inv-loop μ-loop
+mul-period c = search needs
+
+element-write-period : tie.Need-element-write-period Inv-loop μ-loop
+element-write-period c = search needs
+
+cast-deadline : tie.Need-cast-deadline Inv-loop μ-loop
+cast-deadline c = search needs
+
+mul-deadline : tie.Need-mul-deadline Inv-loop μ-loop
+mul-deadline c = search needs
+
+element-write-deadline : tie.Need-element-write-deadline Inv-loop μ-loop
+element-write-deadline c = search needs
+
+work-requires : tie.Need-work-requires Inv-loop μ-loop
+work-requires c κs = search needs
+
+cast-work : tie.Need-cast-work Inv-loop μ-loop
+cast-work c =
+    let b = c .before .before .before .before .before in
+    let s = b .before .before .args .t1 in
+    let h : b .before .loop .k < s .count = search needs in
+    let w : work (flowAt s (b .before .loop .k)) ≤ 64 = work-le-64 _ (accepted-flow s (b .before .before .pre .0) (b .before .loop .k) h) in
+    omega (arith, c .work .ensures)
+
+element-write-work : tie.Need-element-write-work Inv-loop μ-loop
+element-write-work c = search needs
+
+add-k : tie.Need-add-k Inv-loop μ-loop
+add-k c = search needs
+
+loop-less : tie.Need-loop-less Inv-loop μ-loop
+loop-less c = search needs
+
+loop-again : tie.Need-loop-again Inv-loop μ-loop
+loop-again c =
+    let v = c .before .before .before .before .before .before .loop in
+    let a = c .before .before .before .before .before .before .before .args in
+    let p = c .before .before .before .before .before .before .before .pre .1 in
+    let h : v .k < a .t1 .count = search needs in
+    let u = sym (used-flow (a .t1) (v .k) h) in
+    let x : flowAt (a .t1) (v .k) .start ≤ 65535 = search needs in
+    let y : flowAt (a .t1) (v .k) .deadline .0 ≤ 65535 = search needs in (
+      search needs,
+      v .inv .1,
+      through-next _ (v .k) _ _ _ (omega arith) (ap (λ (f : Flow). f .start) u) (v .inv .2),
+      through-next _ (v .k) _ _ _ (omega arith) (ap (λ (f : Flow). f .period .0) u) (v .inv .3),
+      through-next _ (v .k) _ _ _ (omega arith) (ap (λ (f : Flow). f .deadline .0) u) (v .inv .4),
+      through-next _ (v .k) _ _ _ (omega arith) (c .work .ensures ∙ ap work u) (v .inv .5),
+      set-le (v .start) (v .k) _ 65535 (rw (v .inv .2 .long) (omega arith)) (v .inv .6) x,
+      set-le (v .deadline) (v .k) _ 65535 (rw (v .inv .4 .long) (omega arith)) (v .inv .7) y,
+    )
+
+returns : tie.Need-returns Inv-loop μ-loop
+returns c =
+    let e : c .before .loop .k ≡ c .before .before .args .t1 .count = search needs in
+    let i = c .before .loop .inv in
+    (through-all _ _ _ _ _ e (i .2), (through-all _ _ _ _ _ e (i .3), (through-all _ _ _ _ _ e (i .4), (through-all _ _ _ _ _ e (i .5), λ k h. (i .6 k (omega arith), i .7 k (omega arith))))))
+
+pub tables-spec : {M : Type 1} → statement M
+tables-spec =
+    tie.close
+    (tie.spec
+    Inv-loop
+    μ-loop
+    cast-count
+    loop-holds
+    mul-f
+    element-copy-out-f
+    cast-start
+    mul-start
+    element-write-start
+    cast-period
+    mul-period
+    element-write-period
+    cast-deadline
+    mul-deadline
+    element-write-deadline
+    work-requires
+    cast-work
+    element-write-work
+    add-k
+    loop-less
+    loop-again
+    returns)

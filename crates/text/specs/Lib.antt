@@ -1,0 +1,6 @@
+pub mod Numerals
+pub mod Lines
+pub mod Again
+pub mod Written
+pub mod Zeros
+pub mod RoundTrip

@@ -1,0 +1,3 @@
+pub mod Copy
+pub mod Stepping
+pub mod Slotting

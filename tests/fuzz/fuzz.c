@@ -1,0 +1,42 @@
+/* A fuzz target for the exported functions: any bytes are a state and a text. It checks what must hold of every answer.
+ * docs/FUZZING.md says how to run it. */
+#include <stdlib.h>
+#include <string.h>
+
+#include "rembasuk.h"
+
+int LLVMFuzzerTestOneInput(const uint8_t *data, size_t size);
+
+static void must(int test)
+{
+    if (!test) {
+        abort();
+    }
+}
+
+int LLVMFuzzerTestOneInput(const uint8_t *data, size_t size)
+{
+    uint8_t state[REMBASUK_STATE_LENGTH] = {0}, before[REMBASUK_STATE_LENGTH], lines[1024], filled[1024];
+    size_t head = size < sizeof state ? size : sizeof state, text_length = size - head, room;
+    const uint8_t *text = data + head;
+    rembasuk_verdict_answer v;
+    rembasuk_bounds_answer b;
+    rembasuk_slot_answer s;
+    memcpy(state, data, head);
+    memcpy(before, state, sizeof state);
+    memset(lines, 0xA5, sizeof lines);
+    memcpy(filled, lines, sizeof lines);
+    v = rembasuk_verdict(text, text_length);
+    must(v.refusal <= 9 && v.basic <= 1 && v.tightened <= 1 && (v.refusal == 0) == (v.rounds > 0));
+    must(!v.basic || v.tightened); /* the tightened bound is never above the basic one */
+    b = rembasuk_bounds(text, text_length, head > 0 ? data[0] % 66u : 0);
+    must(b.refusal <= 13 && b.tightened <= b.basic && b.work <= b.deadline);
+    room = head > 1 ? (size_t)data[1] * 4 : sizeof lines;
+    s = rembasuk_slot(text, text_length, state, sizeof state, lines, room);
+    must(s.length <= room && memcmp(lines + s.length, filled, sizeof lines - s.length) == 0);
+    if (s.refusal != 0) {
+        must(s.length == 0 && memcmp(state, before, sizeof state) == 0);
+    }
+    must(v.refusal == 0 || s.refusal == v.refusal);
+    return 0;
+}
