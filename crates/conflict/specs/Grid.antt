@@ -1,12 +1,15 @@
 -- Grids of numbers, one for each pair of flows: row k, column l, in rows of as many columns as a set may have flows. And rows of one
 -- number for each flow.
-use mathlib.Core.Path.{_≡_}
+use mathlib.Core.Path.{_≡_, sym, ap, _∙_}
 use mathlib.Core.Bool.{cond}
-use mathlib.Core.Logic.{_⊎_, _≢_}
+use mathlib.Core.Logic.{_⊎_, inl, inr, _≢_}
 use mathlib.Core.List.{List}
-use Prim.Native.Nat.{ℕ, _+_, _*_, _≤_, _<_}
+use Prim.Native.Nat.{ℕ, _+_, _*_, _/_, _%_, _≤_, _<_}
+use native.Mathlib.Decide.{decLe}
+use native.Mathlib.Omega.{arith}
 use lib.Dec.{eqb}
 use lib.ListN.{length, getD}
+use lib.Seq.{ext-getD}
 use Rattle.model.specs.declared.kinds.FlowSet.{FlowSet}
 use Rattle.model.specs.Limits.{mostFlows}
 use Rattle.model.specs.Sets.{flowAt}
@@ -49,3 +52,28 @@ GridOf f s t = RowsTo (f s) (s .count) (s .count) t
 -- every flow of the set
 abbrev pub ListOf : (FlowSet → ℕ → ℕ) → FlowSet → List ℕ → Type 0
 ListOf f s t = FilledTo (f s) (s .count) t
+
+-- each of them is fixed by what it holds
+pub grid-once : (f : ℕ → ℕ → ℕ) (n k : ℕ) (t u : List ℕ) → RowsTo f n k t → RowsTo f n k u → t ≡ u
+grid-once f n k t u a b =
+    ext-getD 0 t u (a .whole ∙ sym (b .whole))
+    (λ i h. let e : i / mostFlows * mostFlows + i % mostFlows ≡ i = omega arith in
+    ap (λ (x : ℕ). getD t x 0) (sym e) ∙ cell (i / mostFlows) (i % mostFlows) (omega arith) ∙ ap (λ (x : ℕ). getD u x 0) e)
+  where
+    cell : (i l : ℕ) → l < mostFlows → pairAt t i l ≡ pairAt u i l
+    cell i l h =
+        elim (decLe k i) [
+          | yes p ↦ a .none i l h (inl p) ∙ sym (b .none i l h (inl p))
+          | no p ↦ elim (decLe n l) [
+            | yes q ↦ a .none i l h (inr q) ∙ sym (b .none i l h (inr q))
+            | no q ↦ a .row i l (omega arith) (omega arith) ∙ sym (b .row i l (omega arith) (omega arith))
+          ]
+        ]
+
+pub list-once : (f : ℕ → ℕ) (k : ℕ) (t u : List ℕ) → FilledTo f k t → FilledTo f k u → t ≡ u
+list-once f k t u a b =
+    ext-getD 0 t u (a .whole ∙ sym (b .whole))
+    (λ i h. elim (decLe k i) [
+      | yes p ↦ a .none i p ∙ sym (b .none i p)
+      | no p ↦ a .entry i (omega arith) ∙ sym (b .entry i (omega arith))
+    ])

@@ -132,13 +132,20 @@ fn conflicts_of(s: FlowSet) -> [u16; PAIRS]
     t
 }
 
+// A number for each pair of flows.
+pub struct Grid {
+    pub cells: [u16; PAIRS],
+}
+
 // S of every pair of flows; all 0 for a set that the record check refuses.
-pub fn conflicts(s: FlowSet) -> [u16; PAIRS]
-    ensures { λ r. ⌜ GridOf conflictOf (judged (used s)) r ⌝ }
+pub fn conflicts(s: FlowSet) -> Grid
+    ensures { λ r. ⌜ GridOf conflictOf (judged (used s)) (r .cells) ⌝ }
 {
     let refusal = rules::record_fault(s).refusal;
     if refusal.code() == 0 {
-        return conflicts_of(s);
+        return Grid {
+            cells: conflicts_of(s),
+        };
     }
-    [0; PAIRS]
+    Grid { cells: [0; PAIRS] }
 }

@@ -1,72 +1,55 @@
 -- A turn of a round's loop is one entry's replacement, and a turn of the rounds' loop is one round.
 use mathlib.Core.Path.{_≡_, refl, sym, ap, ap₂, _∙_}
-use mathlib.Core.Bool.{Bool, true, false, not, _||_, or-true, or-false, false≢true}
+use mathlib.Core.Bool.{Bool, true, false, not}
 use mathlib.Core.List.{List}
 use Prim.Native.Nat.{ℕ, zero, suc, _+_, _-_, _*_, _≤_, _<_, min}
 use native.Mathlib.Nat.{le-trans, le-of-eq, le-refl}
 use native.Mathlib.Numerals.{add-one}
 use native.Mathlib.Decide.{decLe}
 use native.Mathlib.Omega.{arith}
-use borrow.Author.Tests.{ltb-true, ltb-false}
-use lib.Dec.{ltb}
 use lib.ListN.{length, getD, take, set, replicate}
-use lib.Seq.{length-take-le, ext-getD, getD-take, take-set-lt, getD-set-same, set-getD}
+use lib.Seq.{length-take-le, ext-getD, getD-take, take-set-lt}
 use Rattle.model.specs.declared.kinds.FlowSet.{FlowSet}
 use Rattle.model.specs.Limits.{mostFlows}
 use Rattle.model.specs.Text.{same}
 use Rattle.model.specs.Delay.{deadline, workAt, valueAt, lowered, roundTo, roundOf, Reached, roundsIn, mostRounds, reached, deadlines}
 use Rattle.laws.specs.Sums.{sum-le, sum-const}
 use Rattle.greatest.specs.Values.{value-ext, deadlines-length, deadlines-entry}
-use Rattle.greatest.specs.Rounds.{round-le, same-eq, same-refl, Between, between-deadlines, between-round, WorkFits, room, room-deadlines, round-falls, rounds-stop, rounds-on}
+use Rattle.greatest.specs.Rounds.{same-eq, same-refl, Between, between-deadlines, between-round, WorkFits, room, room-deadlines, round-falls, rounds-stop, rounds-on}
 use Rattle.shares.specs.declared.Tables.{Tables}
 use Rattle.shares.specs.Tables.{Tabled}
 use Rattle.conflict.proofs.Fill.{filled-start, filled-next}
-use Rattle.rounds.specs.Steps.{RoundTo, RoundDone, Going, ValuesTo}
+use Rattle.rounds.specs.Steps.{RoundDone, Going, ValuesTo}
 
 -- lists that differ at a place are not the same
-differ : (u v : List ℕ) (i : ℕ) → (getD u i 0 ≡ getD v i 0 → ⊥) → same u v ≡ false
-differ u v i n = go (same u v) refl
+pub same-not : (u v : List ℕ) (i : ℕ) → (getD u i 0 ≡ getD v i 0 → ⊥) → same u v ≡ false
+same-not u v i n = go (same u v) refl
   where
     go : (b : Bool) → same u v ≡ b → b ≡ false
     go false e = refl
     go true e = absurd (n (ap (λ (l : List ℕ). getD l i 0) (same-eq u v e)))
 
-pub round-start : (s : FlowSet) (v : List ℕ) → RoundTo s v v false 0
-unfolding roundTo
-round-start s v = record { list = refl; flag = same-refl v }
+-- lists that agree in the first n entries are the same so far
+pub same-first : (n : ℕ) (u v : List ℕ) → n ≤ length u → n ≤ length v → ((i : ℕ) → i < n → getD u i 0 ≡ getD v i 0) → same (take n v) (take n u) ≡ true
+same-first n u v h l e =
+    let x = length-take-le n u h in
+    let y = length-take-le n v l in
+    let q : take n v ≡ take n u = ext-getD 0 (take n v) (take n u) (y ∙ sym x)
+    (λ i j. let k : i < n = omega arith in getD-take n v i 0 k ∙ sym (e i k) ∙ sym (getD-take n u i 0 k)) in
+    rw q (same-refl (take n u))
 
 -- the entry of flow k is replaced
-pub round-next : (s : FlowSet) (v₀ v : List ℕ) (changed : Bool) (k x : ℕ) → k < s .count → s .count ≤ length v → x ≡ valueAt s v k
-    → RoundTo s v₀ (take (s .count) v) changed k
-    → RoundTo s v₀ (take (s .count) (set v k (min (getD v k 0) x))) (changed || ltb x (getD v k 0)) (k + 1)
+pub round-next : (s : FlowSet) (v₀ v : List ℕ) (k x : ℕ) → k < s .count → x ≡ valueAt s v k
+    → take (s .count) v ≡ roundTo s v₀ k → take (s .count) (set v k (min (getD v k 0) x)) ≡ roundTo s v₀ (k + 1)
 unfolding roundTo lowered
-round-next s v₀ v changed k x h l e r =
+round-next s v₀ v k x h e r =
     let n = s .count in
     let u = take n v in
     let z = min (getD v k 0) x in
-    let g = getD-take n v k 0 h in
     let ve = value-ext s u v k (λ i j. getD-take n v i 0 j) in
-    let q : set u k (min (getD u k 0) (valueAt s u k)) ≡ set u k z =
-    ap₂ (λ (a b : ℕ). set u k (min a b)) g (ve ∙ sym e) in
+    let q : lowered s u k ≡ set u k z = ap₂ (λ (a b : ℕ). set u k (min a b)) (getD-take n v k 0 h) (ve ∙ sym e) in
     let w : lowered s u k ≡ take n (set v k z) = q ∙ sym (take-set-lt n v k z h) in
-    record {
-      list = sym w ∙ ap (λ (y : List ℕ). lowered s y k) (r .list) ∙ rw add-one;
-      flag = go (ltb x (getD v k 0)) refl;
-    }
-  where
-    go : (b : Bool) → ltb x (getD v k 0) ≡ b → same (take (s .count) (set v k (min (getD v k 0) x))) v₀ ≡ not (changed || b)
-    go true t =
-        let n = s .count in
-        let i = ltb-true x (getD v k 0) t in
-        let a = getD-take n (set v k (min (getD v k 0) x)) k 0 h ∙ getD-set-same v k (min (getD v k 0) x) 0 (omega arith) in
-        let b = getD-take n v k 0 h in
-        let c = round-le s v₀ k k in
-        let d = ap (λ (y : List ℕ). getD y k 0) (r .list) in
-        rw (or-true) (differ _ v₀ k (λ f. omega arith))
-    go false t =
-        let i = ltb-false x (getD v k 0) t in
-        let m : min (getD v k 0) x ≡ getD v k 0 = omega arith in
-        rw (or-false, m, set-getD v k 0) (r .flag)
+    sym w ∙ ap (λ (y : List ℕ). lowered s y k) r ∙ rw add-one
 
 -- before the first round
 pub going-start : (s : FlowSet) → Going s true 0 (deadlines s)

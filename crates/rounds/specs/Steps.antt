@@ -5,17 +5,14 @@ use mathlib.Core.List.{List}
 use Prim.Native.Nat.{ℕ, _+_, _-_, _≤_, _<_}
 use Rattle.model.specs.declared.kinds.FlowSet.{FlowSet}
 use Rattle.model.specs.Text.{same}
-use Rattle.model.specs.Delay.{basicBound, roundTo, roundsIn, mostRounds, reached, tightBound}
+use Rattle.model.specs.Delay.{basicBound, roundOf, roundsIn, mostRounds, reached, tightBound}
 use Rattle.conflict.specs.Grid.{FilledTo}
 use Rattle.greatest.specs.Rounds.{Between, room}
 
 -- w is v after a round, and the flag says whether that changed it
-pub record RoundTo (s : FlowSet) (v w : List ℕ) (changed : Bool) (n : ℕ) : Type 0 where
-  pub list : w ≡ roundTo s v n
+pub record RoundDone (s : FlowSet) (v w : List ℕ) (changed : Bool) : Type 0 where
+  pub list : w ≡ roundOf s v
   pub flag : same w v ≡ not changed
-
-abbrev pub RoundDone : FlowSet → List ℕ → List ℕ → Bool → Type 0
-RoundDone s v w changed = RoundTo s v w changed (s .count)
 
 -- after c rounds the list is v: either the rounds go on from there as the definition's do, or they are over
 abbrev pub Going : FlowSet → Bool → ℕ → List ℕ → Type 0

@@ -1,12 +1,12 @@
 // The rounds of document 01's tightened delay test, and both bounds of every flow.
 ghost use mathlib.Core.Path.{_≡_};
-ghost use mathlib.Core.Bool.{true, _||_};
+ghost use mathlib.Core.Bool.{true, not};
 ghost use Prim.Native.Nat.{_-_, _≤_, _<_, min};
-ghost use lib.Dec.{ltb};
 ghost use lib.ListN.{take};
 ghost use Rattle.model.specs.Refusals.{good, noFault};
 ghost use Rattle.model.specs.Reader.{recordFault};
 ghost use Rattle.model.specs.Sets.{used};
+ghost use Rattle.model.specs.Text.{same};
 ghost use Rattle.model.specs.Delay.{joined, valueAt, reached};
 ghost use Rattle.laws.specs.Accepted.{Accepted};
 ghost use Rattle.shares.specs.Tables.{Tabled};
@@ -110,17 +110,19 @@ fn smaller(old: u16, x: u32) -> u16
     if x < old as u32 { x as u16 } else { old }
 }
 
-// Whether the equation's value is below an entry.
-fn below(x: u32, old: u16) -> bool
-    ensures { λ r. ⌜ r ≡ ltb x old ⌝ }
+// Whether two lists differ in one of the first n entries.
+fn differ(n: usize, a: [u16; Flow::MOST], b: [u16; Flow::MOST]) -> bool
+    requires { ⌜ n ≤ 64 ⌝ }
+    ensures { λ r. ⌜ same (take n b) (take n a) ≡ not r ⌝ }
 {
-    x < old as u32
-}
-
-fn either(a: bool, b: bool) -> bool
-    ensures { λ r. ⌜ r ≡ (a || b) ⌝ }
-{
-    if a { true } else { b }
+    let mut k: usize = 0;
+    while k < n {
+        if a[k] != b[k] {
+            return true;
+        }
+        k += 1;
+    }
+    false
 }
 
 // A round's list, and whether it is another than the list before.
@@ -147,7 +149,6 @@ fn one_round<'a>(
     let n = s.count as usize;
     let m = s.map.ways();
     let mut v = list;
-    let mut changed = false;
     let mut k: usize = 0;
     while k < s.count as usize {
         let x = value(
@@ -164,10 +165,12 @@ fn one_round<'a>(
         );
         let old = v[k];
         v[k] = smaller(old, x);
-        changed = either(changed, below(x, old));
         k += 1;
     }
-    Round { list: v, changed }
+    Round {
+        list: v,
+        changed: differ(n, list, v),
+    }
 }
 
 // What the rounds reach, and their number.

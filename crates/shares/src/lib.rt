@@ -191,7 +191,8 @@ fn tables_of(s: FlowSet) -> Tables
     requires { ⌜ good (recordFault (used s) .refusal) ≡ true ⌝ }
     ensures { λ r. ⌜ Tabled (used s) r ⌝ }
 {
-    let conflict = conflict::conflicts(s);
+    let grid = conflict::conflicts(s);
+    let conflict = grid.cells;
     let remainder = remainders(s);
     let work = works(s);
     let deadline = deadlines(s);

@@ -1,3 +1,4 @@
+-- `conflict_row`: the row's first l places hold S, and all else is as it was. Assumes nothing beyond its `requires`.
 use mathlib.Core.Path.{_≡_, sym, ap, ap₂, _∙_}
 use Prim.Native.Nat.{_-_, _≤_, _<_}
 use native.Mathlib.Omega.{arith}
@@ -10,10 +11,6 @@ use Rattle.conflict.proofs.Fill.{row-start, row-next}
 use borrow.Author.Needs.{needs}
 use Rattle.conflict.proofs.conflict_row.Statement.{statement}
 use Rattle.conflict.proofs.conflict_row.Tie as tie
-use Rattle.conflict.proofs.conflict_row.Reads as reads
-use Rattle.conflict.proofs.conflict_row.Lts as lts
-use Rattle.conflict.proofs.conflict_work.Reads as conflict-work-reads
-use Rattle.conflict.proofs.marks.Reads as marks-reads
 
 abbrev Inv-loop : tie.InvT-loop
 Inv-loop k t₀ s me m n l₀ t l = (l ≤ n) × (n ≤ 64) × RowDone (conflictOf (used s) k) l k t₀ t

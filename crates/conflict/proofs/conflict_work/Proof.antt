@@ -1,3 +1,4 @@
+-- `conflict_work`: tries times links touched, which is at most 64. Assumes nothing beyond its `requires`.
 use mathlib.Core.Path.{ap}
 use Prim.Native.Nat.{ℕ, _*_}
 use native.Mathlib.Nat.{mul-le-mul, lt-of-le-of-lt}
@@ -6,9 +7,6 @@ use Rattle.model.specs.Delay.{conflictWork}
 use borrow.Author.Needs.{needs}
 use Rattle.conflict.proofs.conflict_work.Statement.{statement}
 use Rattle.conflict.proofs.conflict_work.Tie as tie
-use Rattle.conflict.proofs.conflict_work.Reads as reads
-use Rattle.conflict.proofs.conflict_work.Lts as lts
-use Rattle.conflict.proofs.links_touched.Reads as links-touched-reads
 
 links-touched-requires : tie.Need-links-touched-requires
 links-touched-requires c κs = search needs

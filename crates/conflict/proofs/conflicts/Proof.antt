@@ -1,3 +1,4 @@
+-- `conflicts`: the record check decides between the set's S and no flows at all. Assumes nothing beyond its `requires`.
 use mathlib.Core.Path.{_≡_}
 use mathlib.Core.Bool.{true}
 use Rattle.model.specs.Refusals.{good}
@@ -10,11 +11,6 @@ use Rattle.conflict.proofs.Fill.{rows-start}
 use borrow.Author.Needs.{needs}
 use Rattle.conflict.proofs.conflicts.Statement.{statement}
 use Rattle.conflict.proofs.conflicts.Tie as tie
-use Rattle.conflict.proofs.conflicts.Reads as reads
-use Rattle.conflict.proofs.conflicts.Lts as lts
-use Rattle.conflict.proofs.conflicts_of.Reads as conflicts-of-reads
-use Rattle.model.proofs.answers.Refusal.code.Reads as code-reads
-use Rattle.rules.proofs.record_fault.Reads as record-fault-reads
 
 -- where the record check has passed
 passed : (c : tie.Then1) → good (recordFault (used (c .before .before .before .args .s)) .refusal) ≡ true

@@ -1,3 +1,4 @@
+-- `conflicts_of`: the first k rows hold S. Assumes nothing beyond its `requires`.
 use Prim.Native.Nat.{_-_, _≤_}
 use mathlib.Core.Path.{_≡_}
 use native.Mathlib.Omega.{arith}
@@ -8,9 +9,6 @@ use Rattle.conflict.proofs.Fill.{rows-start, rows-next}
 use borrow.Author.Needs.{needs}
 use Rattle.conflict.proofs.conflicts_of.Statement.{statement}
 use Rattle.conflict.proofs.conflicts_of.Tie as tie
-use Rattle.conflict.proofs.conflicts_of.Reads as reads
-use Rattle.conflict.proofs.conflicts_of.Lts as lts
-use Rattle.conflict.proofs.conflict_row.Reads as conflict-row-reads
 
 abbrev Inv-loop : tie.InvT-loop
 Inv-loop s t₀ n k₀ t k = (k ≤ n) × RowsTo (conflictOf (used s)) n k t

@@ -1,3 +1,4 @@
+-- `links_touched`: the count is the sum over the links so far. Assumes nothing beyond its `requires`.
 use mathlib.Core.Path.{_≡_, sym, ap, ap₂, _∙_}
 use Prim.Native.Nat.{ℕ, _+_, _-_, _≤_}
 use native.Mathlib.Omega.{arith}
@@ -8,11 +9,6 @@ use Rattle.laws.specs.Sums.{sum-next, sum-zero}
 use borrow.Author.Needs.{needs}
 use Rattle.conflict.proofs.links_touched.Statement.{statement}
 use Rattle.conflict.proofs.links_touched.Tie as tie
-use Rattle.conflict.proofs.links_touched.Reads as reads
-use Rattle.conflict.proofs.links_touched.Lts as lts
-use Rattle.model.proofs.kinds.Flow.links.Reads as links-reads
-use Rattle.conflict.proofs.one_if.Reads as one-if-reads
-use Rattle.conflict.proofs.touches.Reads as touches-reads
 
 abbrev Inv-loop : tie.InvT-loop
 Inv-loop k l m n touched₀ i₀ touched i = (i ≤ n) × (n ≡ links l) × (touched ≤ i) × (touched ≡ sumTo (λ x. bit (touches (exact k) (exact l) x)) i)

@@ -1,11 +1,10 @@
+-- `marks`: each node passed has its remainder marked, and no mark is ever taken back. Assumes nothing beyond its `requires`.
 use Rattle.conflict.proofs.Routes.{marked-next, marked-fewer}
 use Prim.Native.Nat.{_-_, _≤_}
 use Rattle.conflict.specs.Marks.{Marked}
 use borrow.Author.Needs.{needs}
 use Rattle.conflict.proofs.marks.Statement.{statement}
 use Rattle.conflict.proofs.marks.Tie as tie
-use Rattle.conflict.proofs.marks.Reads as reads
-use Rattle.conflict.proofs.marks.Lts as lts
 
 abbrev Inv-loop : tie.InvT-loop
 Inv-loop f m₀ n j₀ m j = (n ≤ 17) × Marked m (f .route) j

@@ -1,10 +1,9 @@
+-- `search_from`: a node without a mark is none of the route's, so nothing is left to search. Assumes nothing beyond its `requires`.
 use mathlib.Core.Path.{sym, _∙_}
 use Rattle.conflict.proofs.Routes.{memb-past, unmarked}
 use borrow.Author.Needs.{needs}
 use Rattle.conflict.proofs.search_from.Statement.{statement}
 use Rattle.conflict.proofs.search_from.Tie as tie
-use Rattle.conflict.proofs.search_from.Reads as reads
-use Rattle.conflict.proofs.search_from.Lts as lts
 
 cast-at : tie.Need-cast-at
 cast-at c = search needs

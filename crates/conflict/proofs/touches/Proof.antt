@@ -1,3 +1,4 @@
+-- `touches`: none of the ends so far is on the route, and the first that is decides. Assumes nothing beyond its `requires`.
 use mathlib.Core.Path.{_≡_, refl, sym, _∙_}
 use mathlib.Core.Bool.{true, false}
 use Prim.Native.Nat.{_+_, _-_, _≤_}
@@ -11,9 +12,6 @@ use Rattle.conflict.proofs.Routes.{meet-ends}
 use borrow.Author.Needs.{needs}
 use Rattle.conflict.proofs.touches.Statement.{statement}
 use Rattle.conflict.proofs.touches.Tie as tie
-use Rattle.conflict.proofs.touches.Reads as reads
-use Rattle.conflict.proofs.touches.Lts as lts
-use Rattle.conflict.proofs.search_from.Reads as search-from-reads
 
 abbrev Inv-loop : tie.InvT-loop
 Inv-loop i m k l n found₀ e at node j₀ found j = (found ≡ false) × (memb node (exact k .route) ≡ memb node (drop j (exact k .route)))

@@ -1,3 +1,4 @@
+-- `admits`: all of the bounds so far are kept. Assumes nothing beyond its `requires`.
 use mathlib.Core.Path.{_≡_, sym, ap, ap₂, _∙_}
 use mathlib.Core.Bool.{Bool, _&&_}
 use Prim.Native.Nat.{ℕ, _-_, _≤_, _<_}
@@ -13,10 +14,6 @@ use Rattle.delay.proofs.Parts.{all-zero, all-next}
 use borrow.Author.Needs.{needs}
 use Rattle.delay.proofs.admits.Statement.{statement}
 use Rattle.delay.proofs.admits.Tie as tie
-use Rattle.delay.proofs.admits.Reads as reads
-use Rattle.delay.proofs.admits.Lts as lts
-use Rattle.delay.proofs.both.Reads as both-reads
-use Rattle.model.proofs.kinds.Span.keeps.Reads as keeps-reads
 
 abbrev Inv-loop : tie.InvT-loop
 Inv-loop s bound n all₀ k₀ all k = (k ≤ n) × (n ≤ 64) × (all ≡ allTo (λ i. leb (getD bound i 0) (deadline (used s) i)) k)

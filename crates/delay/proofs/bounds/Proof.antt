@@ -1,3 +1,4 @@
+-- `bounds`: the record's refusal first, then 13, then the bounds. Assumes nothing beyond its `requires`.
 use mathlib.Core.Path.{_≡_, refl, sym, ap, _∙_}
 use mathlib.Core.Bool.{true}
 use Rattle.model.specs.Refusals.{good}
@@ -8,12 +9,6 @@ use Rattle.delay.proofs.Parts.{passed-by, refused-by, fault-refused}
 use borrow.Author.Needs.{needs}
 use Rattle.delay.proofs.bounds.Statement.{statement}
 use Rattle.delay.proofs.bounds.Tie as tie
-use Rattle.delay.proofs.bounds.Reads as reads
-use Rattle.delay.proofs.bounds.Lts as lts
-use Rattle.delay.proofs.bounds_at.Reads as bounds-at-reads
-use Rattle.delay.proofs.refused.Reads as refused-reads
-use Rattle.model.proofs.answers.Refusal.code.Reads as code-reads
-use Rattle.rounds.proofs.all_bounds.Reads as all-bounds-reads
 
 -- past the first test the record check has passed
 passed : (c : tie.Else1) → good (recordFault (used (c .before .before .before .before .args .s)) .refusal) ≡ true

@@ -1,3 +1,4 @@
+-- `bounds_at`: each part is the definition's, and the margin is made of two of them. Assumes nothing beyond its `requires`.
 use mathlib.Core.Path.{_≡_, sym, ap, _∙_}
 use Prim.Native.Nat.{_≤_, _<_}
 use native.Mathlib.Nat.{le-trans, le-of-eq}
@@ -14,10 +15,6 @@ use Rattle.delay.proofs.Parts.{basic-entry, tight-entry, fault-given, b
 use borrow.Author.Needs.{needs}
 use Rattle.delay.proofs.bounds_at.Statement.{statement}
 use Rattle.delay.proofs.bounds_at.Tie as tie
-use Rattle.delay.proofs.bounds_at.Reads as reads
-use Rattle.delay.proofs.bounds_at.Lts as lts
-use Rattle.delay.proofs.margin.Reads as margin-reads
-use Rattle.model.proofs.kinds.Flow.work.Reads as work-reads
 
 -- the flow's number is within the arrays
 within : (c : tie.Start) → c .args .k < 64

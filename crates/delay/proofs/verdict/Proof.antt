@@ -1,3 +1,4 @@
+-- `verdict`: the bounds of all flows are judged against the deadlines. Assumes nothing beyond its `requires`.
 use mathlib.Core.Path.{_≡_, refl, sym, ap, _∙_}
 use mathlib.Core.Bool.{true}
 use Rattle.model.specs.Refusals.{good}
@@ -8,11 +9,6 @@ use Rattle.delay.proofs.Parts.{verdict-made, verdict-refused, passed-by
 use borrow.Author.Needs.{needs}
 use Rattle.delay.proofs.verdict.Statement.{statement}
 use Rattle.delay.proofs.verdict.Tie as tie
-use Rattle.delay.proofs.verdict.Reads as reads
-use Rattle.delay.proofs.verdict.Lts as lts
-use Rattle.delay.proofs.admits.Reads as admits-reads
-use Rattle.model.proofs.answers.Refusal.code.Reads as code-reads
-use Rattle.rounds.proofs.all_bounds.Reads as all-bounds-reads
 
 -- past the test the record check has passed
 passed : (c : tie.Else1) → good (recordFault (used (c .before .before .before .before .args .s)) .refusal) ≡ true

@@ -1,3 +1,4 @@
+-- `add_up`: both sums hold the terms of the flows so far. Assumes nothing beyond its `requires`.
 use mathlib.Core.Path.{_≡_, refl, sym, ap, ap₂, _∙_}
 use Prim.Native.Nat.{ℕ, _+_, _-_, _*_, _≤_, _<_, min}
 use native.Mathlib.Omega.{arith}
@@ -9,10 +10,6 @@ use Rattle.rounds.specs.Rows.{cutAt, conflictRow, workRow}
 use borrow.Author.Needs.{needs}
 use Rattle.rounds.proofs.add_up.Statement.{statement}
 use Rattle.rounds.proofs.add_up.Tie as tie
-use Rattle.rounds.proofs.add_up.Reads as reads
-use Rattle.rounds.proofs.add_up.Lts as lts
-use Rattle.rounds.proofs.least.Reads as least-reads
-use Rattle.rounds.proofs.less.Reads as less-reads
 
 abbrev Inv-loop : tie.InvT-loop
 Inv-loop k n conflict remainder work deadline v row x₀ w₀ l₀ x w l =

@@ -1,3 +1,4 @@
+-- `all_bounds`: the record check decides between zeros and the two tests' bounds. Assumes nothing beyond its `requires`.
 use mathlib.Core.Path.{_≡_}
 use mathlib.Core.Bool.{true}
 use Rattle.model.specs.Refusals.{good}
@@ -8,12 +9,6 @@ use Rattle.rounds.proofs.Results.{all-refused, all-given}
 use borrow.Author.Needs.{needs}
 use Rattle.rounds.proofs.all_bounds.Statement.{statement}
 use Rattle.rounds.proofs.all_bounds.Tie as tie
-use Rattle.rounds.proofs.all_bounds.Reads as reads
-use Rattle.rounds.proofs.all_bounds.Lts as lts
-use Rattle.model.proofs.answers.Refusal.code.Reads as code-reads
-use Rattle.rounds.proofs.judge.Reads as judge-reads
-use Rattle.rounds.proofs.no_fault.Reads as no-fault-reads
-use Rattle.rules.proofs.record_fault.Reads as record-fault-reads
 
 -- past the test the record check has passed
 passed : (c : tie.Else1) → good (recordFault (used (c .before .before .before .args .s)) .refusal) ≡ true

@@ -1,3 +1,4 @@
+-- `join`: the quotient is at most what it divides, so all fits 32 bits. Assumes nothing beyond its `requires`.
 use mathlib.Core.Path.{refl}
 use Prim.Native.Nat.{_-_}
 use native.Mathlib.Nat.{div-le-self}
@@ -5,8 +6,6 @@ use native.Mathlib.Omega.{arith}
 use borrow.Author.Needs.{needs}
 use Rattle.rounds.proofs.join.Statement.{statement}
 use Rattle.rounds.proofs.join.Tie as tie
-use Rattle.rounds.proofs.join.Reads as reads
-use Rattle.rounds.proofs.join.Lts as lts
 
 add-result : tie.Need-add-result
 add-result c = search needs

@@ -1,3 +1,4 @@
+-- `judge`: the value at D is the basic bound, and at the last list the tightened one. Assumes nothing beyond its `requires`.
 use mathlib.Core.Path.{_≡_, sym, _∙_}
 use Rattle.model.specs.Sets.{used}
 use Rattle.laws.specs.Accepted.{accepted}
@@ -6,11 +7,6 @@ use Rattle.rounds.proofs.Results.{tabled-good, basic-carried, tight-car
 use borrow.Author.Needs.{needs}
 use Rattle.rounds.proofs.judge.Statement.{statement}
 use Rattle.rounds.proofs.judge.Tie as tie
-use Rattle.rounds.proofs.judge.Reads as reads
-use Rattle.rounds.proofs.judge.Lts as lts
-use Rattle.rounds.proofs.rounds.Reads as rounds-reads
-use Rattle.rounds.proofs.values.Reads as values-reads
-use Rattle.shares.proofs.tabulate.Reads as tabulate-reads
 
 -- the tables are those of the set
 tabled : (c : tie.After-tabulate) → Tabled (used (c .before .args .s)) (c .tabulate .result)

@@ -1,3 +1,4 @@
+-- `rounds`: either the rounds go on as the definition's do, with room left, or they are over and the list is what the definition reaches. Assumes nothing beyond its `requires`.
 use mathlib.Core.Path.{_≡_, refl, sym, ap, _∙_}
 use mathlib.Core.Bool.{true, false}
 use Prim.Native.Nat.{ℕ, _+_, _-_, _≤_, _<_}
@@ -11,9 +12,6 @@ use Rattle.rounds.proofs.Turns.{going-start, going-next, most-small, de
 use borrow.Author.Needs.{needs}
 use Rattle.rounds.proofs.rounds.Statement.{statement}
 use Rattle.rounds.proofs.rounds.Tie as tie
-use Rattle.rounds.proofs.rounds.Reads as reads
-use Rattle.rounds.proofs.rounds.Lts as lts
-use Rattle.rounds.proofs.one_round.Reads as one-round-reads
 
 abbrev Inv-loop : tie.InvT-loop
 Inv-loop s t v₀ count₀ going₀ v count going = Going (used s) going count (take (s .count) v)

@@ -1,3 +1,4 @@
+-- `value`: what no round changes is looked up, and the two sums are added to it. Assumes nothing beyond its `requires`.
 use mathlib.Core.Path.{ap₂, _∙_}
 use Prim.Native.Nat.{ℕ, _+_}
 use lib.ListN.{getD}
@@ -6,10 +7,6 @@ use Rattle.rounds.specs.Rows.{tableValue}
 use borrow.Author.Needs.{needs}
 use Rattle.rounds.proofs.value.Statement.{statement}
 use Rattle.rounds.proofs.value.Tie as tie
-use Rattle.rounds.proofs.value.Reads as reads
-use Rattle.rounds.proofs.value.Lts as lts
-use Rattle.rounds.proofs.add_up.Reads as add-up-reads
-use Rattle.rounds.proofs.join.Reads as join-reads
 
 add-up-requires : tie.Need-add-up-requires
 add-up-requires c κs = search needs

@@ -1,3 +1,4 @@
+-- `values`: the first k entries are the equation's values. Assumes nothing beyond its `requires`.
 use mathlib.Core.Path.{_≡_, ap, _∙_}
 use Prim.Native.Nat.{ℕ, _-_, _≤_, _<_}
 use native.Mathlib.Omega.{arith}
@@ -10,10 +11,6 @@ use Rattle.rounds.proofs.Turns.{values-start, values-next}
 use borrow.Author.Needs.{needs}
 use Rattle.rounds.proofs.values.Statement.{statement}
 use Rattle.rounds.proofs.values.Tie as tie
-use Rattle.rounds.proofs.values.Reads as reads
-use Rattle.rounds.proofs.values.Lts as lts
-use Rattle.rounds.proofs.value.Reads as value-reads
-use Rattle.model.proofs.kinds.ChannelMap.ways.Reads as ways-reads
 
 abbrev Inv-loop : tie.InvT-loop
 Inv-loop s t v n m out₀ k₀ out k = (k ≤ s .count) × (s .count ≤ 64) × ValuesTo (valueAt (used s) v) k out

@@ -1,3 +1,4 @@
+-- `deadlines`: the first k entries are D, 16 bits each. Assumes nothing beyond its `requires`.
 use mathlib.Core.Path.{_≡_, refl, sym, ap, _∙_}
 use Prim.Native.Nat.{ℕ, _-_, _≤_, _<_}
 use native.Mathlib.Nat.{le-trans, le-of-eq}
@@ -13,9 +14,6 @@ use Rattle.conflict.proofs.Checked.{count-at}
 use borrow.Author.Needs.{needs}
 use Rattle.shares.proofs.deadlines.Statement.{statement}
 use Rattle.shares.proofs.deadlines.Tie as tie
-use Rattle.shares.proofs.deadlines.Reads as reads
-use Rattle.shares.proofs.deadlines.Lts as lts
-use Rattle.shares.proofs.bounded.Reads as bounded-reads
 
 abbrev Inv-loop : tie.InvT-loop
 Inv-loop s t₀ n k₀ t k = (k ≤ n) × (n ≤ 64) × FilledTo (deadline (used s)) k t × ((i : ℕ) → i < k → deadline (used s) i ≤ 65535)

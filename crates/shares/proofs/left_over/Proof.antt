@@ -1,9 +1,8 @@
+-- `left_over`: the remainder, or 0 of a flow and itself. Assumes nothing beyond its `requires`.
 use borrow.Author.Tests.{eq-eqb, ne-eqb}
 use borrow.Author.Needs.{needs}
 use Rattle.shares.proofs.left_over.Statement.{statement}
 use Rattle.shares.proofs.left_over.Tie as tie
-use Rattle.shares.proofs.left_over.Reads as reads
-use Rattle.shares.proofs.left_over.Lts as lts
 
 returns : tie.Need-returns
 returns c = rw (eq-eqb _ _ (c .if1 .taken))

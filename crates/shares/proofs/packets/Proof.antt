@@ -1,3 +1,4 @@
+-- `packets`: the quotient, or 0 of a flow and itself. Assumes nothing beyond its `requires`.
 use native.Mathlib.Nat.{div-le-self}
 use native.Mathlib.Omega.{arith}
 use mathlib.Core.Path.{refl}
@@ -5,8 +6,6 @@ use borrow.Author.Tests.{eq-eqb, ne-eqb}
 use borrow.Author.Needs.{needs}
 use Rattle.shares.proofs.packets.Statement.{statement}
 use Rattle.shares.proofs.packets.Tie as tie
-use Rattle.shares.proofs.packets.Reads as reads
-use Rattle.shares.proofs.packets.Lts as lts
 
 returns : tie.Need-returns
 returns c = rw (eq-eqb _ _ (c .if1 .taken)) (refl, search needs)

@@ -1,3 +1,4 @@
+-- `remainder_row`: the row's first l places hold r, and all else is as it was. Assumes nothing beyond its `requires`.
 use mathlib.Core.Path.{_≡_, refl, sym, ap, ap₂, _∙_}
 use Prim.Native.Nat.{_-_, _%_, _≤_, _<_}
 use native.Mathlib.Omega.{arith}
@@ -11,9 +12,6 @@ use Rattle.conflict.proofs.Checked.{good-at, count-at}
 use borrow.Author.Needs.{needs}
 use Rattle.shares.proofs.remainder_row.Statement.{statement}
 use Rattle.shares.proofs.remainder_row.Tie as tie
-use Rattle.shares.proofs.remainder_row.Reads as reads
-use Rattle.shares.proofs.remainder_row.Lts as lts
-use Rattle.shares.proofs.left_over.Reads as left-over-reads
 
 abbrev Inv-loop : tie.InvT-loop
 Inv-loop k t₀ s me n l₀ t l = (l ≤ n) × (n ≤ 64) × RowDone (remainderOf (used s) k) l k t₀ t

@@ -1,3 +1,4 @@
+-- `remainders`: the first k rows hold r. Assumes nothing beyond its `requires`.
 use Prim.Native.Nat.{_-_, _≤_}
 use mathlib.Core.Path.{_≡_}
 use native.Mathlib.Omega.{arith}
@@ -9,9 +10,6 @@ use Rattle.conflict.proofs.Checked.{count-at}
 use borrow.Author.Needs.{needs}
 use Rattle.shares.proofs.remainders.Statement.{statement}
 use Rattle.shares.proofs.remainders.Tie as tie
-use Rattle.shares.proofs.remainders.Reads as reads
-use Rattle.shares.proofs.remainders.Lts as lts
-use Rattle.shares.proofs.remainder_row.Reads as remainder-row-reads
 
 abbrev Inv-loop : tie.InvT-loop
 Inv-loop s t₀ n k₀ t k = (k ≤ n) × RowsTo (remainderOf (used s)) n k t

@@ -1,3 +1,4 @@
+-- `tables_of`: each table is what its own function says. Assumes nothing beyond its `requires`.
 use mathlib.Core.Path.{_≡_}
 use Rattle.model.specs.Sets.{used}
 use Rattle.laws.specs.Accepted.{accepted}
@@ -6,35 +7,28 @@ use Rattle.conflict.specs.Judged.{judged-good}
 use borrow.Author.Needs.{needs}
 use Rattle.shares.proofs.tables_of.Statement.{statement}
 use Rattle.shares.proofs.tables_of.Tie as tie
-use Rattle.shares.proofs.tables_of.Reads as reads
-use Rattle.shares.proofs.tables_of.Lts as lts
-use Rattle.conflict.proofs.conflicts.Reads as conflicts-reads
-use Rattle.shares.proofs.deadlines.Reads as deadlines-reads
-use Rattle.shares.proofs.remainders.Reads as remainders-reads
-use Rattle.shares.proofs.whole_sums.Reads as whole-sums-reads
-use Rattle.shares.proofs.works.Reads as works-reads
 
 -- S is that of the set
-grid : (c : tie.After-conflicts) → GridOf conflictOf (used (c .before .args .s)) (c .conflicts .result)
+grid : (c : tie.After-conflicts) → GridOf conflictOf (used (c .before .args .s)) (c .conflicts .result .cells)
 grid c = rw (judged-good _ (c .before .pre)) at (c .conflicts .ensures)
 
 conflicts-requires : tie.Need-conflicts-requires
 conflicts-requires c κs = search needs
 
 remainders-requires : tie.Need-remainders-requires
-remainders-requires c κs = accepted _ (c .before .pre)
+remainders-requires c κs = accepted _ (c .before .before .pre)
 
 works-requires : tie.Need-works-requires
-works-requires c κs = accepted _ (c .before .before .pre)
+works-requires c κs = accepted _ (c .before .before .before .pre)
 
 deadlines-requires : tie.Need-deadlines-requires
-deadlines-requires c κs = accepted _ (c .before .before .before .pre)
+deadlines-requires c κs = accepted _ (c .before .before .before .before .pre)
 
 whole-sums-requires : tie.Need-whole-sums-requires
 unfolding used
 whole-sums-requires c κs =
     let w = c .before .before .before in
-    let g = w .before .before in
+    let g = w .before .before .before in
     (accepted _ (g .before .pre), (grid g, w .works .ensures))
 
 returns : tie.Need-returns
@@ -43,7 +37,7 @@ returns c =
     let w = c .before .before in
     let d = w .before .before .before in
     record {
-      conflicts = grid (d .before .before .before);
+      conflicts = grid (d .before .before .before .before);
       remainders = d .before .before .remainders .ensures;
       works = d .before .works .ensures;
       deadlines = d .deadlines .ensures .0;

@@ -1,3 +1,4 @@
+-- `tabulate`: the record check decides between the set's tables and those of no flows. Assumes nothing beyond its `requires`.
 use mathlib.Core.Path.{_≡_}
 use mathlib.Core.Bool.{true}
 use Rattle.model.specs.Refusals.{good}
@@ -9,11 +10,6 @@ use Rattle.shares.proofs.Terms.{tabled-blank}
 use borrow.Author.Needs.{needs}
 use Rattle.shares.proofs.tabulate.Statement.{statement}
 use Rattle.shares.proofs.tabulate.Tie as tie
-use Rattle.shares.proofs.tabulate.Reads as reads
-use Rattle.shares.proofs.tabulate.Lts as lts
-use Rattle.model.proofs.answers.Refusal.code.Reads as code-reads
-use Rattle.rules.proofs.record_fault.Reads as record-fault-reads
-use Rattle.shares.proofs.tables_of.Reads as tables-of-reads
 
 -- where the record check has passed
 passed : (c : tie.Then1) → good (recordFault (used (c .before .before .before .args .s)) .refusal) ≡ true

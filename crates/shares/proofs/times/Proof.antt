@@ -1,11 +1,10 @@
+-- `times`: the product of 16 bits and at most 64 fits 32 bits. Assumes nothing beyond its `requires`.
 use native.Mathlib.Nat.{mul-le-mul, lt-of-le-of-lt}
 use mathlib.Core.Path.{refl}
 use lib.Dec.{lit<}
 use borrow.Author.Needs.{needs}
 use Rattle.shares.proofs.times.Statement.{statement}
 use Rattle.shares.proofs.times.Tie as tie
-use Rattle.shares.proofs.times.Reads as reads
-use Rattle.shares.proofs.times.Lts as lts
 
 mul-result : tie.Need-mul-result
 mul-result c = record { fits = lt-of-le-of-lt (mul-le-mul (c .pre .0) (c .pre .1)) (lit< tt) }

@@ -1,3 +1,4 @@
+-- `whole_of`: both sums hold the terms of the flows so far, at most 65,535 · 64 each. Assumes nothing beyond its `requires`.
 use mathlib.Core.Path.{_≡_, refl, sym, ap, ap₂, _∙_}
 use Prim.Native.Nat.{ℕ, _+_, _-_, _*_, _≤_, _<_}
 use native.Mathlib.Nat.{le-trans, le-of-eq}
@@ -13,10 +14,6 @@ use Rattle.shares.proofs.Terms.{work-at-small, conflict-at-small, whole
 use borrow.Author.Needs.{needs}
 use Rattle.shares.proofs.whole_of.Statement.{statement}
 use Rattle.shares.proofs.whole_of.Tie as tie
-use Rattle.shares.proofs.whole_of.Reads as reads
-use Rattle.shares.proofs.whole_of.Lts as lts
-use Rattle.shares.proofs.packets.Reads as packets-reads
-use Rattle.shares.proofs.times.Reads as times-reads
 
 abbrev Inv-loop : tie.InvT-loop
 Inv-loop k conflict work s me n x₀ w₀ l₀ x w l =

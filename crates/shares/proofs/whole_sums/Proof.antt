@@ -1,3 +1,4 @@
+-- `whole_sums`: the first k entries are the sums of q·S and q·C. Assumes nothing beyond its `requires`.
 use mathlib.Core.Path.{_≡_}
 use Prim.Native.Nat.{_-_, _≤_}
 use native.Mathlib.Omega.{arith}
@@ -8,9 +9,6 @@ use Rattle.shares.proofs.Terms.{wholes-start, wholes-next}
 use borrow.Author.Needs.{needs}
 use Rattle.shares.proofs.whole_sums.Statement.{statement}
 use Rattle.shares.proofs.whole_sums.Tie as tie
-use Rattle.shares.proofs.whole_sums.Reads as reads
-use Rattle.shares.proofs.whole_sums.Lts as lts
-use Rattle.shares.proofs.whole_of.Reads as whole-of-reads
 
 abbrev Inv-loop : tie.InvT-loop
 Inv-loop s conflict work xs₀ ws₀ n k₀ xs ws k = (k ≤ n) × (n ≤ 64) × WholesOf (used s) k xs ws

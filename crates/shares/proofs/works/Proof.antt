@@ -1,3 +1,4 @@
+-- `works`: the first k entries are C, at most 64 each. Assumes nothing beyond its `requires`.
 use mathlib.Core.Path.{_≡_, refl, sym, ap, ap₂, _∙_}
 use Prim.Native.Nat.{_-_, _%_, _≤_, _<_}
 use native.Mathlib.Omega.{arith}
@@ -12,9 +13,6 @@ use Rattle.conflict.proofs.Checked.{good-at, count-at, work-small}
 use borrow.Author.Needs.{needs}
 use Rattle.shares.proofs.works.Statement.{statement}
 use Rattle.shares.proofs.works.Tie as tie
-use Rattle.shares.proofs.works.Reads as reads
-use Rattle.shares.proofs.works.Lts as lts
-use Rattle.model.proofs.kinds.Flow.work.Reads as work-reads
 
 abbrev Inv-loop : tie.InvT-loop
 Inv-loop s t₀ n k₀ t k = (k ≤ n) × (n ≤ 64) × FilledTo (workAt (used s)) k t
