@@ -1,3 +1,4 @@
 pub mod Values
 pub mod Rounds
 pub mod Largest
+pub mod Promises

@@ -210,19 +210,19 @@ fn rounds(s: FlowSet, t: Tables) -> Reach
     }
 }
 
-// The equation's value at v for every flow.
-fn values(s: FlowSet, t: Tables, v: [u16; Flow::MOST]) -> [u32; Flow::MOST]
+// The equation's value at a list for every flow.
+fn values(s: FlowSet, t: Tables, at: [u16; Flow::MOST]) -> [u32; Flow::MOST]
     requires { ⌜ Accepted (used s) ⌝ }
     requires { ⌜ Tabled (used s) t ⌝ }
-    ensures { λ r. ⌜ ValuesTo (valueAt (used s) v) (s .count) r ⌝ }
+    ensures { λ r. ⌜ ValuesTo (valueAt (used s) at) (s .count) r ⌝ }
 {
     let n = s.count as usize;
     let m = s.map.ways();
     let mut out = [0u32; Flow::MOST];
-    let mut k: usize = 0;
-    while k < s.count as usize {
-        out[k] = value(
-            k,
+    let mut j: usize = 0;
+    while j < s.count as usize {
+        out[j] = value(
+            j,
             n,
             m,
             &t.conflict,
@@ -231,9 +231,9 @@ fn values(s: FlowSet, t: Tables, v: [u16; Flow::MOST]) -> [u32; Flow::MOST]
             &t.deadline,
             &t.whole_conflict,
             &t.whole_work,
-            &v,
+            &at,
         );
-        k += 1;
+        j += 1;
     }
     out
 }

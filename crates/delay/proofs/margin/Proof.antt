@@ -13,7 +13,7 @@ use mir.ValLaws.{toZ-pos, toZ-ofZ}
 use Rattle.delay.proofs.margin.Statement.{statement}
 use Rattle.delay.proofs.margin.Tie as tie
 
-difference-fits : (d b : ℕ) → d ≤ 65535 → b ≤ 272691135 → SFits w32 (pos d -ℤ pos b)
+difference-fits : (d b : ℕ) → d ≤ 272691135 → b ≤ 272691135 → SFits w32 (pos d -ℤ pos b)
 difference-fits d zero h l = record { sfits = omega arith }
 difference-fits d (suc b) h l = go (ltb d (suc b))
   where
@@ -22,8 +22,11 @@ difference-fits d (suc b) h l = go (ltb d (suc b))
     go false = record { sfits = omega arith }
 
 -- what the machine reads back from the bits of both
-read-back : (d b : ℕ) → d ≤ 65535 → b ≤ 272691135 → toZ w32 d -ℤ toZ w32 b ≡ pos d -ℤ pos b
+read-back : (d b : ℕ) → d ≤ 272691135 → b ≤ 272691135 → toZ w32 d -ℤ toZ w32 b ≡ pos d -ℤ pos b
 read-back d b h l = ap₂ _-ℤ_ (toZ-pos w32 d (omega arith)) (toZ-pos w32 b (omega arith))
+
+fits : (d b : ℕ) → d ≤ 272691135 → b ≤ 272691135 → SFits w32 (toZ w32 d -ℤ toZ w32 b)
+fits d b h l = rw (read-back d b h l) (difference-fits d b h l)
 
 cast-result : tie.Need-cast-result
 cast-result c = search needs
@@ -32,13 +35,11 @@ cast-result-2 : tie.Need-cast-result-2
 cast-result-2 c = search needs
 
 sub-result : tie.Need-sub-result
-sub-result c =
-    let h : c .args .deadline ≤ 65535 = search needs in
-    rw (read-back (c .args .deadline) (c .args .bound) h (c .pre)) (difference-fits (c .args .deadline) (c .args .bound) h (c .pre))
+sub-result c = fits (c .args .deadline) (c .args .bound) (search needs) (c .pre)
 
 returns : tie.Need-returns
 returns c =
-    let h : c .args .deadline ≤ 65535 = search needs in
+    let h : c .args .deadline ≤ 272691135 = search needs in
     toZ-ofZ w32 _ (sub-result c) ∙ read-back (c .args .deadline) (c .args .bound) h (c .pre)
 
 pub margin-spec : {M : Type 1} → statement M

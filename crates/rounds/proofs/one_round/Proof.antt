@@ -39,7 +39,7 @@ value-requires c κs =
     let w = i .before .before in
     let b = w .before .before .before in
     let m : 0 < w .before .ways .result = omega (arith, ones-pos (b .args .s .map .0) (b .pre .0 .some-channel)) in
-    ((i .if1 .taken, w .loop .inv .1, m), ordered-carried (used (b .args .s)) _ (b .pre .1) (w .loop .v) (w .loop .k) (i .if1 .taken))
+    ((i .if1 .taken, w .loop .inv .1, m), ordered-carried (used (b .args .s)) _ (b .pre .1) _ (w .loop .k) (i .if1 .taken))
 
 mul-old : tie.Need-mul-old Inv-loop μ-loop
 mul-old c = search needs
@@ -81,7 +81,7 @@ loop-again c =
     )
 
 differ-requires : tie.Need-differ-requires Inv-loop μ-loop
-differ-requires c κs = c .before .before .loop .inv .1
+differ-requires c κs = omega arith
 
 returns : tie.Need-returns Inv-loop μ-loop
 unfolding used

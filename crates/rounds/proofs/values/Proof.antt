@@ -39,7 +39,7 @@ value-requires c κs =
     let b = w .before .before .before in
     let u = used (b .args .s) in
     let m : 0 < w .before .ways .result = omega (arith, ones-pos (b .args .s .map .0) (b .pre .0 .some-channel)) in
-    ((i .if1 .taken, w .loop .inv .1, m), ordered-carried u _ (b .pre .1) (b .args .t3) (w .loop .k) (i .if1 .taken))
+    ((omega arith, w .loop .inv .1, m), ordered-carried u _ (b .pre .1) _ _ (omega arith))
 
 mul-out : tie.Need-mul-out Inv-loop μ-loop
 mul-out c = search needs
@@ -47,8 +47,8 @@ mul-out c = search needs
 array-write-out : tie.Need-array-write-out Inv-loop μ-loop
 array-write-out c = omega arith
 
-add-k : tie.Need-add-k Inv-loop μ-loop
-add-k c = search needs
+add-j : tie.Need-add-j Inv-loop μ-loop
+add-j c = search needs
 
 loop-less : tie.Need-loop-less Inv-loop μ-loop
 loop-less c = search needs
@@ -62,14 +62,14 @@ loop-again c =
     let u = used (b .args .s) in
     let x =
     c .value .ensures .0
-    ∙ ap (λ (y : ℕ). tableValue (b .args .t2) y (b .args .t3) (b .args .s .count) (w .loop .k)) (w .before .ways .ensures)
-    ∙ value-carried u (b .args .t2) (b .pre .1) (b .args .t3) (w .loop .k) (i .if1 .taken) in
-    (search needs, search needs, values-next _ (w .loop .k) _ _ (omega arith) (w .loop .inv .2) x (c .value .ensures .1))
+    ∙ ap (λ (y : ℕ). tableValue (b .args .t2) y (b .args .t3) (b .args .s .count) (w .loop .j)) (w .before .ways .ensures)
+    ∙ value-carried u (b .args .t2) (b .pre .1) (b .args .t3) (w .loop .j) (i .if1 .taken) in
+    (search needs, search needs, values-next _ (w .loop .j) _ _ (omega arith) (w .loop .inv .2) x (c .value .ensures .1))
 
 returns : tie.Need-returns Inv-loop μ-loop
 returns c =
     let w = c .before .before in
-    let e : w .loop .k ≡ w .before .before .before .args .s .count = omega arith in
+    let e : w .loop .j ≡ w .before .before .before .args .s .count = omega arith in
     rw e at (w .loop .inv .2)
 
 pub values-spec : {M : Type 1} → statement M
@@ -85,7 +85,7 @@ values-spec =
     value-requires
     mul-out
     array-write-out
-    add-k
+    add-j
     loop-less
     loop-again
     returns)
