@@ -7,6 +7,7 @@ ghost use Rattle.model.specs.Reader.{recordFault};
 ghost use Rattle.model.specs.Sets.{used};
 ghost use Rattle.model.specs.Machine.{runOf};
 ghost use Rattle.machinery.specs.Slots.{Prepared};
+ghost use Rattle.promise.specs.Demand.{Admitted};
 use model::Fault;
 use model::Flow;
 use model::FlowSet;
@@ -96,6 +97,7 @@ fn run_accepted(s: FlowSet, fault: Fault, budget: u32) -> Ran
 // refused set stays at the fresh state.
 pub fn run(s: FlowSet, budget: u32) -> Ran
     ensures { λ r. ⌜ r ≡ runOf (used s) budget ⌝ }
+    ensures kept { λ r. ⌜ (Admitted (used s) → r .dropped ≡ 0) ⌝ }
 {
     let fault = rules::record_fault(s);
     let refusal = fault.refusal;

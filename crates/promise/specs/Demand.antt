@@ -1,9 +1,11 @@
 -- Demand 3 holds of document 01's machine. The basic test is the list of deadlines, at which the equation's value is the basic bound; the
 -- tightened test is the rounds' list, which every round keeps above the smaller of deadline and value.
-use mathlib.Core.Path.{_≡_, sym, ap, _∙_}
-use mathlib.Core.Bool.{Bool, true}
+use mathlib.Core.Path.{_≡_, refl, sym, ap, ap₂, _∙_}
+use mathlib.Core.Logic.{_⊎_, inl, inr}
+use mathlib.Core.Bool.{Bool, true, false}
 use mathlib.Core.List.{List}
-use Prim.Native.Nat.{ℕ, zero, suc, _≤_, _<_, _^_}
+use Prim.Native.Nat.{ℕ, zero, suc, _+_, _≤_, _<_, _^_}
+use native.Mathlib.Nat.{le-refl}
 use native.Mathlib.Decide.{decLe}
 use native.Mathlib.Omega.{arith}
 use lib.ListN.{length, getD, length-take}
@@ -19,14 +21,14 @@ use Rattle.model.specs.Sums.{allTo}
 use Rattle.model.specs.Sets.{flowAt, used, filterTo}
 use Rattle.model.specs.Reader.{recordFault, readText}
 use Rattle.model.specs.Delay.{deadline, basicBound, valueAt, deadlines, reached, tightBound, admits, verdictIf, verdictOf, boundsFault, boundsIf, boundsOf}
-use Rattle.model.specs.Machine.{droppedAt, stepOf}
+use Rattle.model.specs.Machine.{droppedAt, stepOf, runOf}
 use Rattle.laws.specs.Sums.{and-l, and-r}
 use Rattle.laws.specs.Used.{used-count, used-flow, used-map}
 use Rattle.laws.specs.Accepted.{accepted}
 use Rattle.greatest.specs.Values.{value-at-deadlines}
 use Rattle.greatest.specs.Rounds.{Between, between-deadlines, reached-between, accepted-fits}
 use Rattle.promise.specs.Promise.{report, Apart, Kept, Held, PromiseWith, Promise}
-use Rattle.promise.specs.Run.{stateAt}
+use Rattle.promise.specs.Run.{stateAt, report-step}
 use Rattle.promise.specs.Reports.{drops-eq, dropped-eq, filter-at}
 use Rattle.promise.specs.Flows.{FlowKept, flow-kept}
 use Rattle.promise.specs.Slots.{slot-apart}
@@ -89,22 +91,32 @@ module _ (s : FlowSet) (g : good (recordFault s .refusal) ≡ true) where
         let e : valueAt s (reached s .list) k ≡ boundsOf s k .tightened = sym (tight-bound k l) in
         rw e at (between-kept (reached s .list) (reached-between s (accepted-fits s (accepted s g))) k n l h (rw e d))
 
-    -- where every flow keeps its bound, the set does
-    flows-kept : (bound : ℕ → ℕ) (n : ℕ) → n ≤ lastSlot → ((k : ℕ) → k < s .count → length (flowAt s k .route) ≡ flowAt s k .nodes)
-        → ((k : ℕ) → k < s .count → FlowKept s k (bound k) n) → Kept stepOf s bound n
-    flows-kept bound n h w f =
-        record {
-          apart = λ t l. slot-apart s g bits w t (omega arith);
-          undropped = λ t l. none t l (decLe 1 (report stepOf s t .drops));
-          made = λ k j l. f k l .made j;
-        }
-      where
-        none : (t : ℕ) → t < n → Dec (1 ≤ report stepOf s t .drops) → report stepOf s t .drops ≡ 0
-        none t l (no x) = omega arith
-        none t l (yes x) =
-            let e = dropped-eq s g t 0 (omega arith) x in
-            let y = filter-at (droppedAt s (stateAt s t)) (s .count) 0 (omega (arith, drops-eq s g t (omega arith))) in
-            absurd (f (getD (filterTo (droppedAt s (stateAt s t)) (s .count)) 0 0) (y .0) .undropped t 0 l x e)
+    -- where every flow keeps its bound, no slot drops a packet, and the set keeps the promise
+    module _ (bound : ℕ → ℕ) (n : ℕ) (h : n ≤ lastSlot) (f : (k : ℕ) → k < s .count → FlowKept s k (bound k) n) where
+      none-dropped : (t : ℕ) → t < n → report stepOf s t .drops ≡ 0
+      none-dropped t l = none (decLe 1 (report stepOf s t .drops))
+        where
+          none : Dec (1 ≤ report stepOf s t .drops) → report stepOf s t .drops ≡ 0
+          none (no x) = omega arith
+          none (yes x) =
+              let e = dropped-eq s g t 0 (omega arith) x in
+              let y = filter-at (droppedAt s (stateAt s t)) (s .count) 0 (omega (arith, drops-eq s g t (omega arith))) in
+              absurd (f (getD (filterTo (droppedAt s (stateAt s t)) (s .count)) 0 0) (y .0) .undropped t 0 l x e)
+
+      flows-kept : ((k : ℕ) → k < s .count → length (flowAt s k .route) ≡ flowAt s k .nodes) → Kept stepOf s bound n
+      flows-kept w =
+          record {
+            apart = λ t l. slot-apart s g bits w t (omega arith);
+            undropped = none-dropped;
+            made = λ k j l. f k l .made j;
+          }
+
+      run-undropped : (t : ℕ) → t ≤ n → runOf s t .dropped ≡ 0
+      unfolding runOf
+      run-undropped zero l = refl
+      run-undropped (suc t) l =
+          let e = ap (λ (r : Stepped). r .drops) (sym (report-step s t)) ∙ none-dropped t (omega arith) in
+          ap₂ _+_ (run-undropped t (omega arith)) e
 
 -- a record as the code holds it has all the nodes of its routes
 used-whole : (s : FlowSet) → Held s → good (recordFault (used s) .refusal) ≡ true
@@ -137,7 +149,36 @@ promise s w g n h = (
 )
   where
     kept : (bound : ℕ → ℕ) → ((k : ℕ) → k < used s .count → FlowKept (used s) k (bound k) n) → Kept stepOf (used s) bound n
-    kept bound = flows-kept (used s) g (used-bits s w) bound n h (used-whole s w g)
+    kept bound f = flows-kept (used s) g (used-bits s w) bound n h f (used-whole s w g)
+
+-- A run of an admitted set drops nothing: either test admits accepted sets only.
+abbrev pub Admitted : FlowSet → Type 0
+Admitted s = (verdictOf s .basic ≡ true) ⊎ (verdictOf s .tightened ≡ true)
+
+pub admitted-good : (s : FlowSet) → Admitted s → good (recordFault s .refusal) ≡ true
+unfolding verdictOf
+admitted-good s a = go (good (recordFault s .refusal)) refl a
+  where
+    go : (b : Bool) → good (recordFault s .refusal) ≡ b → Admitted s → b ≡ true
+    go true e a = refl
+    go false e (inl h) = sym (ap (λ (x : Bool). verdictIf s x .basic) e) ∙ h
+    go false e (inr h) = sym (ap (λ (x : Bool). verdictIf s x .tightened) e) ∙ h
+
+pub run-keeps : (s : FlowSet) → s .map .0 < 2 ^ mostChannels → Admitted (used s) → (n : ℕ) → n ≤ lastSlot → runOf (used s) n .dropped ≡ 0
+run-keeps s w a n h = go a
+  where
+    u : FlowSet
+    u = used s
+
+    g : good (recordFault u .refusal) ≡ true
+    g = admitted-good u a
+
+    b : u .map .0 < 2 ^ mostChannels
+    b = rw (used-map s) w
+
+    go : Admitted u → runOf u n .dropped ≡ 0
+    go (inl e) = run-undropped u g b (λ k. boundsOf u k .basic) n h (λ k l. basic-flow u g b k n l h (basic-admits u g e k l)) n (le-refl n)
+    go (inr e) = run-undropped u g b (λ k. boundsOf u k .tightened) n h (λ k l. tight-flow u g b k n l h (tight-admits u g e k l)) n (le-refl n)
 
 -- The same in the demand's own words: of a text that the reader accepts.
 abbrev pub TextPromise : (basic tightened : FlowSet → ℕ → ℕ) → (FlowSet → State → Stepped) → Type 0

@@ -12,7 +12,7 @@ told-ran-requires : tie.Need-told-ran-requires
 told-ran-requires c κs = search needs
 
 returns : tie.Need-returns
-returns c = c .told-ran .ensures ∙ ap toldRan (c .before .run .ensures)
+returns c = c .told-ran .ensures ∙ ap toldRan (c .before .run .ensures .0)
 
 pub probe-run-spec : {M : Type 1} → statement M
 probe-run-spec = tie.close (tie.spec run-requires told-ran-requires returns)

@@ -8,6 +8,8 @@ use Rattle.model.specs.declared.answers.Fault.{Fault}
 use Rattle.model.specs.declared.kinds.State.{State}
 use borrow.Author.Tests.{eq-eqb, ne-eqb}
 use mathlib.Core.Bool.{true, false}
+use Prim.Native.Nat.{_≤_}
+use Rattle.machine.proofs.Kept.{never-drops}
 use mathlib.Core.Path.{_≡_, refl, sym, ap, ap₂, _∙_}
 use borrow.Author.Needs.{needs}
 use Rattle.machine.proofs.runs.run.Statement.{statement}
@@ -32,7 +34,7 @@ returns c =
     let e = c .before .before .before .record-fault .ensures in
     let n = ap (λ (f : Fault). refusalNumber (f .refusal)) (sym e) ∙ sym (c .before .before .code .ensures) in
     let b : good (recordFault u .refusal) ≡ false = ne-eqb _ _ (λ q. c .before .if1 .taken (sym n ∙ q)) in
-    ap₂ (λ (f : Fault) (z : State). ranOf f z) e (c .fresh .ensures) ∙ sym (run-none u) ∙ sym (run-refused u b (c .before .before .before .before .args .budget))
+    (ap₂ (λ (f : Fault) (z : State). ranOf f z) e (c .fresh .ensures) ∙ sym (run-none u) ∙ sym (run-refused u b (c .before .before .before .before .args .budget)), λ a. refl)
 
 run-accepted-requires : tie.Need-run-accepted-requires
 run-accepted-requires c κs =
@@ -41,7 +43,11 @@ run-accepted-requires c κs =
     (eq-eqb _ _ (n ∙ c .if1 .left), e)
 
 returns-2 : tie.Need-returns-2
-returns-2 c = search needs
+returns-2 c =
+    let s = c .before .before .before .before .args .s in
+    let w : s .map .0 ≤ 65535 = search needs in
+    let e = c .run-accepted .ensures in
+    (e, λ a. ap (λ (r : Ran). r .dropped) e ∙ never-drops s w (c .before .before .before .before .args .budget) a)
 
 pub run-spec : {M : Type 1} → statement M
 run-spec =
