@@ -42,7 +42,7 @@ fn first_fault(row: Row) -> Refusal
 {
     if row.formed {
         if row.count == 1 {
-            return rules::map_fault(row.numbers[0]);
+            return flow_rules::map_fault(row.numbers[0]);
         }
     }
     Refusal::BadForm
@@ -56,7 +56,14 @@ fn flow_fault(k: usize, row: Row) -> Refusal
         if 4 <= row.count {
             let numbers = row.numbers;
             let route = route_of(numbers);
-            return rules::flow_fault(k, numbers[0], numbers[1], numbers[3], row.count - 4, route);
+            return flow_rules::flow_fault(
+                k,
+                numbers[0],
+                numbers[1],
+                numbers[3],
+                row.count - 4,
+                route,
+            );
         }
     }
     Refusal::BadForm

@@ -7,7 +7,7 @@ use lib.ListN.{length, getD, drop}
 use Rattle.model.specs.Sums.{anyTo}
 use Rattle.model.specs.Sets.{memb, exact}
 use Rattle.laws.specs.Sums.{any-zero, any-next, any-in}
-use Rattle.rules.proofs.Nodes.{memb-here, memb-on, memb-end}
+use Rattle.route_rules.proofs.Nodes.{memb-here, memb-on, memb-end}
 use Rattle.conflict.proofs.Routes.{meet-ends}
 use borrow.Author.Needs.{needs}
 use Rattle.conflict.proofs.touches.Statement.{statement}

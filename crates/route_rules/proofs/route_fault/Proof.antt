@@ -9,13 +9,13 @@ use borrow.Author.Tests.{lt-ltb, le-ltb}
 use lib.Dec.{lit<}
 use lib.ListN.{take}
 use Rattle.model.specs.Reader.{twice}
-use Rattle.rules.specs.Route.{routeFault}
-use Rattle.rules.proofs.Nodes.{tests}
-use Rattle.rules.proofs.route_fault.Statement.{statement}
-use Rattle.rules.proofs.route_fault.Tie as tie
-use Rattle.rules.proofs.route_fault.Reads as reads
-use Rattle.rules.proofs.route_fault.Lts as lts
-use Rattle.rules.proofs.repeats.Reads as repeats-reads
+use Rattle.route_rules.specs.Route.{routeFault}
+use Rattle.route_rules.proofs.Nodes.{tests}
+use Rattle.route_rules.proofs.route_fault.Statement.{statement}
+use Rattle.route_rules.proofs.route_fault.Tie as tie
+use Rattle.route_rules.proofs.route_fault.Reads as reads
+use Rattle.route_rules.proofs.route_fault.Lts as lts
+use Rattle.route_rules.proofs.repeats.Reads as repeats-reads
 
 returns : tie.Need-returns
 unfolding routeFault
@@ -40,7 +40,7 @@ mul-work : tie.Need-mul-work
 mul-work c =
     let a = c .before .before .before .before .args in
     let n : a .nodes - 1 ≤ 16 = omega arith in
-    let t : a .tries ≤ 4 = search needs in
+    let t : a .tries ≤ 65535 = search needs in
     record { fits = lt-of-le-of-lt (mul-le-mul n t) (lit< tt) }
 
 returns-4 : tie.Need-returns-4

@@ -5,12 +5,12 @@ use native.Mathlib.Omega.{arith}
 use borrow.Author.Needs.{needs}
 use lib.ListN.{take, drop, length}
 use Rattle.model.specs.Reader.{twice}
-use Rattle.rules.proofs.Nodes.{twice-here, twice-on, twice-end}
-use Rattle.rules.proofs.repeats.Statement.{statement}
-use Rattle.rules.proofs.repeats.Tie as tie
-use Rattle.rules.proofs.repeats.Reads as reads
-use Rattle.rules.proofs.repeats.Lts as lts
-use Rattle.rules.proofs.stands_from.Reads as stands-from-reads
+use Rattle.route_rules.proofs.Nodes.{twice-here, twice-on, twice-end}
+use Rattle.route_rules.proofs.repeats.Statement.{statement}
+use Rattle.route_rules.proofs.repeats.Tie as tie
+use Rattle.route_rules.proofs.repeats.Reads as reads
+use Rattle.route_rules.proofs.repeats.Lts as lts
+use Rattle.route_rules.proofs.stands_from.Reads as stands-from-reads
 
 abbrev Inv-loop : tie.InvT-loop
 Inv-loop n route i₀ i = (length route ≡ 17) × (twice (take n route) ≡ twice (drop i (take n route)))

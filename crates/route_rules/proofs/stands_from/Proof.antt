@@ -5,11 +5,11 @@ use native.Mathlib.Omega.{arith}
 use borrow.Author.Needs.{needs}
 use lib.ListN.{take, drop, length}
 use Rattle.model.specs.Sets.{memb}
-use Rattle.rules.proofs.Nodes.{memb-here, memb-on, memb-end}
-use Rattle.rules.proofs.stands_from.Statement.{statement}
-use Rattle.rules.proofs.stands_from.Tie as tie
-use Rattle.rules.proofs.stands_from.Reads as reads
-use Rattle.rules.proofs.stands_from.Lts as lts
+use Rattle.route_rules.proofs.Nodes.{memb-here, memb-on, memb-end}
+use Rattle.route_rules.proofs.stands_from.Statement.{statement}
+use Rattle.route_rules.proofs.stands_from.Tie as tie
+use Rattle.route_rules.proofs.stands_from.Reads as reads
+use Rattle.route_rules.proofs.stands_from.Lts as lts
 
 abbrev Inv-loop : tie.InvT-loop
 Inv-loop node from n route j₀ j = (length route ≡ 17) × (memb node (drop from (take n route)) ≡ memb node (drop j (take n route)))

@@ -2,13 +2,12 @@
 use borrow.Author.Needs.{needs}
 use borrow.Author.Tests.{lt-leb, le-ltb, ne-eqb}
 use Rattle.model.specs.Reader.{flowFault}
-use Rattle.rules.specs.Route.{routeFault}
-use Rattle.rules.proofs.Nodes.{tests}
-use Rattle.rules.proofs.flow_fault.Statement.{statement}
-use Rattle.rules.proofs.flow_fault.Tie as tie
-use Rattle.rules.proofs.flow_fault.Reads as reads
-use Rattle.rules.proofs.flow_fault.Lts as lts
-use Rattle.rules.proofs.route_fault.Reads as route-fault-reads
+use Rattle.route_rules.specs.Route.{routeFault}
+use Rattle.route_rules.proofs.Nodes.{tests}
+use Rattle.flow_rules.proofs.flow_fault.Statement.{statement}
+use Rattle.flow_rules.proofs.flow_fault.Tie as tie
+use Rattle.flow_rules.proofs.flow_fault.Reads as reads
+use Rattle.flow_rules.proofs.flow_fault.Lts as lts
 
 returns : tie.Need-returns
 unfolding flowFault routeFault

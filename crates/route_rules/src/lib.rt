@@ -1,0 +1,65 @@
+// Rules 7 to 9 of document 01: what is asked of a flow's route.
+ghost use mathlib.Core.Path.{_≡_};
+ghost use Prim.Native.Nat.{_≤_};
+ghost use lib.ListN.{take, drop};
+ghost use Rattle.model.specs.Reader.{twice};
+ghost use Rattle.model.specs.Sets.{memb};
+ghost use Rattle.route_rules.specs.Route.{routeFault};
+use model::Flow;
+use model::Refusal;
+
+// Whether a node stands among the first n of a route, from a place on.
+fn stands_from(route: [u16; Flow::MOST_NODES], node: u16, from: usize, n: usize) -> bool
+    requires { ⌜ n ≤ 17 ⌝ }
+    ensures { λ r. ⌜ r ≡ memb node (drop from (take n route)) ⌝ }
+{
+    let mut j = from;
+    while j < n {
+        if node == route[j] {
+            return true;
+        }
+        j += 1;
+    }
+    false
+}
+
+// Rule 8: a node twice among the first n of a route.
+fn repeats(route: [u16; Flow::MOST_NODES], n: usize) -> bool
+    requires { ⌜ n ≤ 17 ⌝ }
+    ensures { λ r. ⌜ r ≡ twice (take n route) ⌝ }
+{
+    let mut i = 0;
+    while i < n {
+        let node = route[i];
+        if stands_from(route, node, i + 1, n) {
+            return true;
+        }
+        i += 1;
+    }
+    false
+}
+
+// Rules 7 to 9.
+pub fn route_fault(
+    deadline: u16,
+    tries: u16,
+    nodes: usize,
+    route: [u16; Flow::MOST_NODES],
+) -> Refusal
+    ensures { λ r. ⌜ r ≡ routeFault deadline tries nodes (take nodes route) ⌝ }
+{
+    if nodes < 2 {
+        return Refusal::BadRoute;
+    }
+    if Flow::MOST_NODES < nodes {
+        return Refusal::BadRoute;
+    }
+    if repeats(route, nodes) {
+        return Refusal::NodeTwice;
+    }
+    let work = (nodes - 1) * (tries as usize);
+    if (deadline as usize) < work {
+        return Refusal::TooMuchWork;
+    }
+    Refusal::Nothing
+}
