@@ -1,8 +1,8 @@
 -- The nodes of a route from a place on: one step further takes the node there off the front.
 use mathlib.Core.Path.{_≡_, refl, sym, ap, _∙_}
-use mathlib.Core.Bool.{Bool, true, false, _||_}
+use mathlib.Core.Bool.{Bool, true, false, _||_, or-true}
 use mathlib.Core.List.{List, [], _∷_}
-use Prim.Native.Nat.{ℕ, suc, _+_, _≤_, _<_}
+use Prim.Native.Nat.{ℕ, zero, suc, _+_, _≤_, _<_}
 use native.Mathlib.Numerals.{add-one}
 use native.Mathlib.Omega.{arith}
 use borrow.Author.Tests.{eq-eqb, ne-eqb, lt-ltb, le-ltb, le-leb, lt-leb}
@@ -53,3 +53,10 @@ module _ (r : List ℕ) (n : ℕ) (fits : n ≤ length r) where
   pub twice-end : (i : ℕ) → n ≤ i → twice (drop i (take n r)) ≡ false
   unfolding twice
   twice-end i h = rw (none i h)
+
+-- a node that stands twice from a place on stands twice in the whole
+pub twice-whole : (l : List ℕ) (i : ℕ) → twice (drop i l) ≡ true → twice l ≡ true
+unfolding twice
+twice-whole l zero e = e
+twice-whole [] (suc i) e = e
+twice-whole (x ∷ r) (suc i) e = let h = twice-whole r i e in rw (h, or-true)
