@@ -3,24 +3,12 @@
 -- have it tightened. 001's W(ν) of 5.5 is not used: min(S, max(0, ·)) is 000's (11). Differences of naturals end at 0, which is document
 -- 01's max(0, ·).
 -- A set here is one without the entries that don't count (`used`), k the flow that is judged and l another.
-use mathlib.Core.Path.{_≡_}
-use mathlib.Core.Bool.{Bool, true, false, cond}
-use mathlib.Core.List.{List, [], _∷_, _++_}
+use mathlib.Core.{Path.{_≡_}, Bool.{Bool, true, false, cond}, List.{List, [], _∷_, _++_}}
 use Prim.Native.Nat.{ℕ, zero, suc, _+_, _-_, _*_, _/_, _%_, _≤_, _<_, min}
-use lib.Count.{ones}
-use lib.Dec.{leb, ltb, eqb}
-use lib.IntN.{pos, _-ℤ_}
-use lib.ListN.{length, getD, take, drop, set}
-use Rattle.model.specs.declared.kinds.Flow.{Flow}
-use Rattle.model.specs.declared.kinds.FlowSet.{FlowSet}
-use Rattle.model.specs.declared.answers.Fault.{Fault}
-use Rattle.model.specs.declared.answers.Verdict.{Verdict}
-use Rattle.model.specs.declared.answers.Bounds.{Bounds}
-use Rattle.model.specs.declared.answers.Refusal.the-variants.{NoSuchFlow}
-use Rattle.model.specs.Refusals.{good, faultAt, noFault, orElse}
-use Rattle.model.specs.Sums.{bit, sumTo, allTo}
-use Rattle.model.specs.Sets.{flowAt, listTo, meet}
-use Rattle.model.specs.Reader.{recordFault}
+use lib.{Count.{ones}, Dec.{leb, ltb, eqb}, IntN.{pos, _-ℤ_}, ListN.{length, getD, take, drop, set}}
+use Rattle.model.specs.declared.kinds.{Flow.{Flow}, FlowSet.{FlowSet}}
+use Rattle.model.specs.declared.answers.{Fault.{Fault}, Verdict.{Verdict}, Bounds.{Bounds}, Refusal.the-variants.{NoSuchFlow}}
+use Rattle.model.specs.{Refusals.{good, faultAt, noFault, orElse}, Sums.{bit, sumTo, allTo}, Sets.{flowAt, listTo, meet}, Reader.{recordFault}}
 use Rattle.model.specs.Text.{same}
 
 -- m: how many bits of the channel map are ones

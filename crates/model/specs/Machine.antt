@@ -1,26 +1,13 @@
 -- Document 01, "The slot machine", rule by rule. A set here is one without the entries that don't count (`used`); t is a slot,
 -- n the count that the state holds for a flow.
-use mathlib.Core.Bool.{Bool, true, false, not, _&&_, _||_, cond}
-use mathlib.Core.List.{List, [], _∷_, _++_}
+use mathlib.Core.{Bool.{Bool, true, false, not, _&&_, _||_, cond}, List.{List, [], _∷_, _++_}}
 use Prim.Native.Nat.{ℕ, zero, suc, _+_, _-_, _*_, _/_, _%_, _^_}
-use lib.Count.{ones}
-use lib.Dec.{leb, ltb, eqb}
-use lib.ListN.{length, getD, take, replicate}
-use Rattle.model.specs.declared.kinds.Flow.{Flow}
-use Rattle.model.specs.declared.kinds.FlowSet.{FlowSet}
-use Rattle.model.specs.declared.kinds.State.{State}
-use Rattle.model.specs.declared.answers.Fault.{Fault}
-use Rattle.model.specs.declared.answers.Send.{Send}
-use Rattle.model.specs.declared.answers.Delivery.{Delivery}
-use Rattle.model.specs.declared.answers.Stepped.{Stepped}
-use Rattle.model.specs.declared.answers.Ran.{Ran}
+use lib.{Count.{ones}, Dec.{leb, ltb, eqb}, ListN.{length, getD, take, replicate}}
+use Rattle.model.specs.declared.kinds.{Flow.{Flow}, FlowSet.{FlowSet}, State.{State}}
+use Rattle.model.specs.declared.answers.{Fault.{Fault}, Send.{Send}, Delivery.{Delivery}, Stepped.{Stepped}, Ran.{Ran}}
 use Rattle.model.specs.declared.answers.Refusal.the-variants.{AtLastSlot, BadState}
-use Rattle.model.specs.Limits.{firstChannel, mostChannels, mostFlows, lastSlot}
-use Rattle.model.specs.Refusals.{good, faultAt, noFault, orElse}
-use Rattle.model.specs.Sums.{bit, anyTo}
-use Rattle.model.specs.Sets.{flowAt, freshState, anyOf, memb, meet, listTo, filterTo}
-use Rattle.model.specs.Reader.{recordFault}
-use Rattle.model.specs.Delay.{ways, work, workAt, link}
+use Rattle.model.specs.{Limits.{firstChannel, mostChannels, mostFlows, lastSlot}, Refusals.{good, faultAt, noFault, orElse}, Sums.{bit, anyTo}}
+use Rattle.model.specs.{Sets.{flowAt, freshState, anyOf, memb, meet, listTo, filterTo}, Reader.{recordFault}, Delay.{ways, work, workAt, link}}
 
 -- 1. packet j is released at a + j·T
 abbrev pub release : Flow → ℕ → ℕ

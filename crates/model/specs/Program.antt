@@ -1,25 +1,12 @@
 -- Document 01, "What is planned, and from what" (the state's 68 bytes, the step on text) and "The plan program".
-use mathlib.Core.Bool.{Bool, true, false, not, _||_, cond}
-use mathlib.Core.List.{List, [], _∷_, _++_}
+use mathlib.Core.{Bool.{Bool, true, false, not, _||_, cond}, List.{List, [], _∷_, _++_}}
 use Prim.Native.Nat.{ℕ, zero, suc, _+_, _-_, _*_, _/_, _%_}
-use lib.Dec.{leb, ltb, eqb}
-use lib.IntN.{ℤ, pos, negsuc}
-use lib.ListN.{length, getD, take, drop}
-use Rattle.model.specs.declared.kinds.FlowSet.{FlowSet}
-use Rattle.model.specs.declared.kinds.State.{State}
-use Rattle.model.specs.declared.answers.Fault.{Fault}
-use Rattle.model.specs.declared.answers.Reading.{Reading}
-use Rattle.model.specs.declared.answers.Refusal.the-variants.{NoRoom, BadState}
-use Rattle.model.specs.declared.answers.Send.{Send}
-use Rattle.model.specs.declared.answers.Verdict.{Verdict}
-use Rattle.model.specs.declared.answers.Bounds.{Bounds}
-use Rattle.model.specs.Limits.{mostFlows}
-use Rattle.model.specs.Refusals.{good, refusalNumber, faultAt, noFault, orElse}
-use Rattle.model.specs.Sums.{bit}
-use Rattle.model.specs.Sets.{used}
-use Rattle.model.specs.Text.{decimal, decimals, lineOf, tabbed}
-use Rattle.model.specs.Reader.{readText}
-use Rattle.model.specs.Delay.{verdictOf, boundsOf}
+use lib.{Dec.{leb, ltb, eqb}, IntN.{ℤ, pos, negsuc}, ListN.{length, getD, take, drop}}
+use Rattle.model.specs.declared.kinds.{FlowSet.{FlowSet}, State.{State}}
+use Rattle.model.specs.declared.answers.{Fault.{Fault}, Reading.{Reading}, Refusal.the-variants.{NoRoom, BadState}, Send.{Send}}
+use Rattle.model.specs.declared.answers.{Verdict.{Verdict}, Bounds.{Bounds}}
+use Rattle.model.specs.{Limits.{mostFlows}, Refusals.{good, refusalNumber, faultAt, noFault, orElse}, Sums.{bit}, Sets.{used}}
+use Rattle.model.specs.{Text.{decimal, decimals, lineOf, tabbed}, Reader.{readText}, Delay.{verdictOf, boundsOf}}
 use Rattle.model.specs.Machine.{sendsAt, nextState, stepFault, runOf}
 
 -- a state is 68 bytes for C: the slot in four bytes, lowest first, then one count byte for each of 64 flows

@@ -1,19 +1,11 @@
 -- Document 01, "Refusal numbers" 1 to 9, the reader, the record check and the writer.
-use mathlib.Core.Bool.{Bool, true, false, not, _&&_, _||_, cond}
-use mathlib.Core.List.{List, [], _∷_, _++_}
+use mathlib.Core.{Bool.{Bool, true, false, not, _&&_, _||_, cond}, List.{List, [], _∷_, _++_}}
 use Prim.Native.Nat.{ℕ, zero, suc, _+_, _-_, _*_}
-use lib.Dec.{leb, ltb, eqb}
-use lib.ListN.{length, getD, take, drop, set, replicate}
-use Rattle.model.specs.declared.kinds.Flow.{Flow}
-use Rattle.model.specs.declared.kinds.FlowSet.{FlowSet}
-use Rattle.model.specs.declared.answers.Fault.{Fault}
-use Rattle.model.specs.declared.answers.Reading.{Reading}
-use Rattle.model.specs.declared.answers.Written.{Written}
-use Rattle.model.specs.declared.answers.Refusal.{Refusal}
+use lib.{Dec.{leb, ltb, eqb}, ListN.{length, getD, take, drop, set, replicate}}
+use Rattle.model.specs.declared.kinds.{Flow.{Flow}, FlowSet.{FlowSet}}
+use Rattle.model.specs.declared.answers.{Fault.{Fault}, Reading.{Reading}, Written.{Written}, Refusal.{Refusal}}
 use Rattle.model.specs.declared.answers.Refusal.the-variants.{Nothing, BadForm, NoChannel, TooManyFlows, BadPeriod, BadDeadline, BadTries, BadRoute, NodeTwice, TooMuchWork, NoRoom}
-use Rattle.model.specs.Limits.{mostFlows, mostNodes}
-use Rattle.model.specs.Refusals.{good, faultAt, noFault, orElse}
-use Rattle.model.specs.Sets.{flowAt, blankSet, memb}
+use Rattle.model.specs.{Limits.{mostFlows, mostNodes}, Refusals.{good, faultAt, noFault, orElse}, Sets.{flowAt, blankSet, memb}}
 use Rattle.model.specs.Text.{setWord, flowWord, lines, wellFormed, numbersOf, lineOf}
 
 -- rule 2

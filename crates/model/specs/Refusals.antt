@@ -2,8 +2,7 @@
 use mathlib.Core.Bool.{Bool, cond}
 use Prim.Native.Nat.{ℕ}
 use lib.Dec.{eqb}
-use Rattle.model.specs.declared.answers.Fault.{Fault}
-use Rattle.model.specs.declared.answers.Refusal.{Refusal}
+use Rattle.model.specs.declared.answers.{Fault.{Fault}, Refusal.{Refusal}}
 use Rattle.model.specs.declared.answers.Refusal.the-variants.{Nothing, BadForm, NoChannel, TooManyFlows, BadPeriod, BadDeadline, BadTries, BadRoute, NodeTwice, TooMuchWork, NoRoom, AtLastSlot, BadState, NoSuchFlow}
 
 -- the number of each case; 0 where nothing is refused

@@ -1,13 +1,8 @@
 -- Document 01, "The flow set": records, the blank ones, and when two records are the same set.
-use mathlib.Core.Path.{_≡_}
-use mathlib.Core.Bool.{Bool, false, _||_, cond}
-use mathlib.Core.List.{List, [], _∷_, _++_, map}
+use mathlib.Core.{Path.{_≡_}, Bool.{Bool, false, _||_, cond}, List.{List, [], _∷_, _++_, map}}
 use Prim.Native.Nat.{ℕ, zero, suc}
-use lib.Dec.{eqb}
-use lib.ListN.{getD, take, replicate}
-use Rattle.model.specs.declared.kinds.Flow.{Flow}
-use Rattle.model.specs.declared.kinds.FlowSet.{FlowSet}
-use Rattle.model.specs.declared.kinds.State.{State}
+use lib.{Dec.{eqb}, ListN.{getD, take, replicate}}
+use Rattle.model.specs.declared.kinds.{Flow.{Flow}, FlowSet.{FlowSet}, State.{State}}
 use Rattle.model.specs.Limits.{mostFlows, mostNodes}
 
 -- a flow of zeros with this route

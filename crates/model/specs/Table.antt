@@ -1,20 +1,12 @@
 -- Document 01, "Sets on either side of a line": P1 to P11, with all that the document says of each, in one table under one theorem.
 -- The sets are their texts, run through the reader's definition; the checker computes the rest.
-use mathlib.Core.Bool.{Bool, true, false, not, _&&_, cond}
-use mathlib.Core.List.{List, [], _∷_, _++_}
-use Prim.Native.Char.{code}
-use Prim.Native.Nat.{ℕ, zero, suc, _+_}
+use mathlib.Core.{Bool.{Bool, true, false, not, _&&_, cond}, List.{List, [], _∷_, _++_}}
+use Prim.Native.{Char.{code}, Nat.{ℕ, zero, suc, _+_}}
 use Prim.Native.String as string
-use lib.Count.{ones, onesIn}
-use lib.Dec.{eqb, T}
-use lib.IntN.{ℤ, pos, negsuc}
-use lib.ListN.{getD}
+use lib.{Count.{ones, onesIn}, Dec.{eqb, T}, IntN.{ℤ, pos, negsuc}, ListN.{getD}}
 use Rattle.model.specs.declared.kinds.FlowSet.{FlowSet}
-use Rattle.model.specs.declared.answers.Reading.{Reading}
-use Rattle.model.specs.declared.answers.Send.{Send}
-use Rattle.model.specs.Refusals.{refusalNumber}
-use Rattle.model.specs.Sums.{sumTo, anyTo, allTo}
-use Rattle.model.specs.Sets.{used, anyOf, meet, listTo, filterTo}
+use Rattle.model.specs.declared.answers.{Reading.{Reading}, Send.{Send}}
+use Rattle.model.specs.{Refusals.{refusalNumber}, Sums.{sumTo, anyTo, allTo}, Sets.{used, anyOf, meet, listTo, filterTo}}
 use Rattle.model.specs.Text.{same, lines, ended, fields, allDigits, valueFrom, isNumber, allNumbers, valuesOf, wellFormed, numbersOf, decimalIn, decimal, tabbed, decimals, lineOf}
 use Rattle.model.specs.Reader.{twice, flowFault, flowsFault, recordFault, flowOf, withFlow, firstLineFault, flowLineFault, readFlows, setOf, readLines, readText, flowLines, textOf}
 use Rattle.model.specs.Delay.{conflictWork, share, overOthers, boundWith, basicBound, valueAt, deadlines, lowered, roundTo, roundsIn, reached, tightBound, admits, verdictOf, boundsFault, boundsOf}

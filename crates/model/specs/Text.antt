@@ -1,7 +1,6 @@
 -- Document 01, "The flow set", from "Text:" on: lines ended by LF, fields parted by one tab, decimal numbers.
 -- A text is the list of its bytes. Lines and fields are split off as the document speaks of them: no place in the text is counted.
-use mathlib.Core.Bool.{Bool, true, false, not, _&&_, _||_, cond}
-use mathlib.Core.List.{List, [], _∷_, _++_}
+use mathlib.Core.{Bool.{Bool, true, false, not, _&&_, _||_, cond}, List.{List, [], _∷_, _++_}}
 use Prim.Native.Nat.{ℕ, zero, suc, _+_, _-_, _*_, _/_, _%_}
 use lib.Dec.{leb, ltb, eqb}
 
