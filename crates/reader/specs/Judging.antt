@@ -25,8 +25,9 @@ use Rattle.lines.specs.declared.reading.Row.{Row}
 use Rattle.lines.specs.Answers.{mostNumbers, noRow, rowIf, rowIn}
 use Rattle.lines.specs.Places.{line, after}
 use Rattle.lines.specs.Fields.{lines-line, formed-line, numbers-line, drop-line}
-use Rattle.reader.specs.Judged.{numberAt, nodesOf, firstRowFault, flowRowFault, flowOfRow, setWith, answerOf}
-use Rattle.reader.specs.Pads.{pad-at, pad-drop, pad-take}
+use Rattle.row_rules.specs.Judged.{numberAt, nodesOf, firstRowFault, flowRowFault}
+use Rattle.row_rules.specs.Pads.{pad-at, pad-drop, pad-take}
+use Rattle.reader.specs.Judged.{flowOfRow, setWith, answerOf}
 
 -- a line read after the flows of t, and the first line
 pub read-good : (t : FlowSet) (l : List ℕ) (ls : List (List ℕ)) → good (flowLineFault (t .count) l) ≡ true

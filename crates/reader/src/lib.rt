@@ -5,7 +5,7 @@ ghost use lib.ListN.{drop};
 ghost use Rattle.model.specs.Reader.{readFlows, readText};
 ghost use Rattle.model.specs.Text.{flowWord, lines, setWord};
 ghost use Rattle.lines.specs.Answers.{rowIn};
-ghost use Rattle.reader.specs.Judged.{answerOf, firstRowFault, flowOfRow, flowRowFault, nodesOf, setWith};
+ghost use Rattle.reader.specs.Judged.{answerOf, flowOfRow, setWith};
 use lines::Row;
 use model::ChannelMap;
 use model::Fault;
@@ -14,6 +14,9 @@ use model::FlowSet;
 use model::Reading;
 use model::Refusal;
 use model::Span;
+use row_rules::first_fault;
+use row_rules::flow_fault;
+use row_rules::route_of;
 
 // The reader's answer; a refusal comes with the blank set.
 fn answer(refusal: Refusal, line: u32, set: FlowSet) -> Reading
@@ -21,52 +24,6 @@ fn answer(refusal: Refusal, line: u32, set: FlowSet) -> Reading
 {
     let fault = Fault { refusal, line };
     Reading { fault, set }
-}
-
-// The nodes among a flow line's numbers.
-fn route_of(numbers: [u16; Row::MOST]) -> [u16; Flow::MOST_NODES]
-    ensures { λ r. ⌜ r ≡ nodesOf numbers ⌝ }
-{
-    let mut route = [0u16; Flow::MOST_NODES];
-    let mut i = 0usize;
-    while i < Flow::MOST_NODES {
-        route[i] = numbers[4 + i];
-        i += 1;
-    }
-    route
-}
-
-// The first line's refusal: its form, then rule 2.
-fn first_fault(row: Row) -> Refusal
-    ensures { λ r. ⌜ r ≡ firstRowFault row ⌝ }
-{
-    if row.formed {
-        if row.count == 1 {
-            return flow_rules::map_fault(row.numbers[0]);
-        }
-    }
-    Refusal::BadForm
-}
-
-// The refusal of the line of flow number k: its form, then rules 3 to 9.
-fn flow_fault(k: usize, row: Row) -> Refusal
-    ensures { λ r. ⌜ r ≡ flowRowFault k row ⌝ }
-{
-    if row.formed {
-        if 4 <= row.count {
-            let numbers = row.numbers;
-            let route = route_of(numbers);
-            return flow_rules::flow_fault(
-                k,
-                numbers[0],
-                numbers[1],
-                numbers[3],
-                row.count - 4,
-                route,
-            );
-        }
-    }
-    Refusal::BadForm
 }
 
 // The flow of a line that has been judged.

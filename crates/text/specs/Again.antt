@@ -27,7 +27,7 @@ use Rattle.lines.specs.Places.{line, after}
 use Rattle.lines.specs.Fields.{lines-line, line-after}
 use Rattle.puts.specs.Decimals.{decimal-one}
 use Rattle.puts.specs.Stores.{fieldsOf, line-parts}
-use Rattle.reader.specs.Pads.{pad-at, pad-take}
+use Rattle.row_rules.specs.Pads.{pad-at, pad-take}
 use Rattle.reader.specs.Judging.{read-good, read-bad, first-good, first-bad, GoodLine, good-line, first-formed, judgedFlow}
 use Rattle.text.specs.Numerals.{decimal-five}
 use Rattle.text.specs.Lines.{inside, small, Line, line-written, line-back, line-small}

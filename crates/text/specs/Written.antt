@@ -24,7 +24,7 @@ use Rattle.model.specs.Text.{setWord, flowWord, lines, wellFormed, numbersOf, l
 use Rattle.laws.specs.Accepted.{Accepted, good-flow, good-flows, or-else-good, accepted as accepted-set}
 use Rattle.laws.specs.Sums.{and-l, and-r}
 use Rattle.laws.specs.Used.{used-flow, used-count, used-map}
-use Rattle.reader.specs.Pads.{pad-at, pad-take}
+use Rattle.row_rules.specs.Pads.{pad-at, pad-take}
 use Rattle.reader.specs.Judging.{read-good, first-good}
 use Rattle.writer.specs.Writing.{used-length}
 use Rattle.text.specs.Lines.{inside, small, Line, line-written}

@@ -15,7 +15,7 @@ use Rattle.model.specs.Refusals.{good}
 use Rattle.model.specs.Sets.{noFlow, blankFlow, blankSet, flowAt}
 use Rattle.model.specs.Reader.{pad, flowOf, withFlow, firstLineFault, flowLineFault, readFlows, setOf, readLines, readText}
 use Rattle.model.specs.Text.{lines, numbersOf}
-use Rattle.reader.specs.Pads.{pad-at, pad-length}
+use Rattle.row_rules.specs.Pads.{pad-at, pad-length}
 use Rattle.reader.specs.Judging.{read-good, read-bad, first-good, first-bad, good-line}
 
 -- all entries that don't count are 0

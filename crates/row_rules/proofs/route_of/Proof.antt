@@ -1,10 +1,10 @@
 -- `route_of` copies the entries from the fourth on, each to its place (`Filled`). Assumes nothing.
 use Prim.Native.Nat.{_-_}
 use mathlib.Core.Path.{refl}
-use Rattle.reader.specs.Pads.{Filled, filled-start, filled-more, filled-done}
+use Rattle.row_rules.specs.Pads.{Filled, filled-start, filled-more, filled-done}
 use borrow.Author.Needs.{needs}
-use Rattle.reader.proofs.route_of.Statement.{statement}
-use Rattle.reader.proofs.route_of.Tie as tie
+use Rattle.row_rules.proofs.route_of.Statement.{statement}
+use Rattle.row_rules.proofs.route_of.Tie as tie
 
 abbrev Inv-loop : tie.InvT-loop
 Inv-loop numbers route₀ i₀ route i = Filled 17 4 numbers route i

@@ -2,8 +2,8 @@
 use mathlib.Core.Path.{_∙_}
 use borrow.Author.Tests.{le-leb, lt-leb}
 use borrow.Author.Needs.{needs}
-use Rattle.reader.proofs.flow_fault.Statement.{statement}
-use Rattle.reader.proofs.flow_fault.Tie as tie
+use Rattle.row_rules.proofs.flow_fault.Statement.{statement}
+use Rattle.row_rules.proofs.flow_fault.Tie as tie
 
 route-of-requires : tie.Need-route-of-requires
 route-of-requires c κs = search needs

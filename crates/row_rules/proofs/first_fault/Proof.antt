@@ -2,8 +2,8 @@
 use mathlib.Core.Path.{_∙_}
 use borrow.Author.Tests.{eq-eqb, ne-eqb}
 use borrow.Author.Needs.{needs}
-use Rattle.reader.proofs.first_fault.Statement.{statement}
-use Rattle.reader.proofs.first_fault.Tie as tie
+use Rattle.row_rules.proofs.first_fault.Statement.{statement}
+use Rattle.row_rules.proofs.first_fault.Tie as tie
 
 element-copy-out-map-fault : tie.Need-element-copy-out-map-fault
 element-copy-out-map-fault c = search needs

@@ -1,0 +1,30 @@
+-- A line's row judged by rules 1 to 9.
+use mathlib.Core.Bool.{Bool, _&&_, cond}
+use mathlib.Core.List.{List, []}
+use Prim.Native.Nat.{ℕ, _-_}
+use lib.Dec.{leb, eqb}
+use lib.ListN.{getD, take, drop}
+use Rattle.model.specs.declared.answers.Refusal.{Refusal}
+use Rattle.model.specs.declared.answers.Refusal.the-variants.{BadForm}
+use Rattle.model.specs.Limits.{mostNodes}
+use Rattle.model.specs.Reader.{mapFault, flowFault, pad}
+use Rattle.lines.specs.declared.reading.Row.{Row}
+
+-- the number at this place of a row
+abbrev pub numberAt : Row → ℕ → ℕ
+numberAt r i = getD (r .numbers) i 0
+
+-- a row's nodes, filled up with zeros
+abbrev pub nodesOf : List ℕ → List ℕ
+nodesOf ns = pad mostNodes (drop 4 ns)
+
+-- the first line's refusal
+abbrev pub firstRowFault : Row → Refusal
+firstRowFault r = cond (r .formed && eqb (r .count) 1) (mapFault (numberAt r 0)) BadForm
+
+-- the refusal of the line of flow number k
+abbrev pub flowRowFault : ℕ → Row → Refusal
+flowRowFault k r =
+    cond (r .formed && leb 4 (r .count))
+    (flowFault k (numberAt r 0) (numberAt r 1) (numberAt r 3) (r .count - 4) (take (r .count - 4) (nodesOf (r .numbers))))
+    BadForm

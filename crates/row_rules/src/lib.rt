@@ -1,0 +1,52 @@
+// What a line of a set's text is refused for, judged by its row: its form first, then rules 2 to 9.
+ghost use mathlib.Core.Path.{_≡_};
+ghost use Rattle.row_rules.specs.Judged.{firstRowFault, flowRowFault, nodesOf};
+use lines::Row;
+use model::Flow;
+use model::Refusal;
+
+// The nodes among a flow line's numbers.
+pub fn route_of(numbers: [u16; Row::MOST]) -> [u16; Flow::MOST_NODES]
+    ensures { λ r. ⌜ r ≡ nodesOf numbers ⌝ }
+{
+    let mut route = [0u16; Flow::MOST_NODES];
+    let mut i = 0usize;
+    while i < Flow::MOST_NODES {
+        route[i] = numbers[4 + i];
+        i += 1;
+    }
+    route
+}
+
+// The first line's refusal: its form, then rule 2.
+pub fn first_fault(row: Row) -> Refusal
+    ensures { λ r. ⌜ r ≡ firstRowFault row ⌝ }
+{
+    if row.formed {
+        if row.count == 1 {
+            return flow_rules::map_fault(row.numbers[0]);
+        }
+    }
+    Refusal::BadForm
+}
+
+// The refusal of the line of flow number k: its form, then rules 3 to 9.
+pub fn flow_fault(k: usize, row: Row) -> Refusal
+    ensures { λ r. ⌜ r ≡ flowRowFault k row ⌝ }
+{
+    if row.formed {
+        if 4 <= row.count {
+            let numbers = row.numbers;
+            let route = route_of(numbers);
+            return flow_rules::flow_fault(
+                k,
+                numbers[0],
+                numbers[1],
+                numbers[3],
+                row.count - 4,
+                route,
+            );
+        }
+    }
+    Refusal::BadForm
+}
