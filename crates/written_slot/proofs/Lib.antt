@@ -1,3 +1,2 @@
-pub mod Copy
-pub mod Stepping
-pub mod Slotting
+mod Stepping
+mod Slotting

@@ -1,0 +1,27 @@
+-- `early` puts the text's refusals first. Assumes nothing.
+use mathlib.Core.Path.{ap, _∙_}
+use Rattle.model.specs.Refusals.{orElse}
+use Rattle.written_slot.specs.Slots.{earlyFault}
+use borrow.Author.Needs.{needs}
+use Rattle.written_slot.proofs.early.Statement.{statement}
+use Rattle.written_slot.proofs.early.Tie as tie
+use Rattle.written_slot.proofs.early.Reads as reads
+use Rattle.written_slot.proofs.early.Lts as lts
+use Rattle.written_slot.proofs.length_fault.Reads as length-fault-reads
+use Rattle.written_slot.proofs.or_else.Reads as or-else-reads
+
+-- src/slots.rt:54:20
+length-fault-requires : tie.Need-length-fault-requires
+length-fault-requires c κs = search needs
+
+-- src/slots.rt:54:5
+or-else-requires : tie.Need-or-else-requires
+or-else-requires c κs = search needs
+
+-- src/slots.rt:51:1
+returns : tie.Need-returns
+unfolding earlyFault
+returns c = c .or-else .ensures ∙ ap (orElse (c .before .before .args .fault)) (c .before .length-fault .ensures)
+
+pub early-spec : {M : Type 1} → statement M
+early-spec = tie.close (tie.spec length-fault-requires or-else-requires returns)
