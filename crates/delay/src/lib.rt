@@ -41,11 +41,12 @@ fn admits(s: FlowSet, bound: [u32; Flow::MOST]) -> bool
     all
 }
 
-// The verdicts of both tests and the number of rounds; zeros and "no" for a set that the record check refuses.
-pub fn verdict(s: FlowSet) -> Verdict
+// The verdicts of both tests and the number of rounds, from the bounds of all flows; zeros and "no" for a set that the record check
+// refuses.
+pub fn verdict_of(s: FlowSet, j: AllBounds) -> Verdict
+    requires { ⌜ AllBoundsOf (used s) j ⌝ }
     ensures { λ r. ⌜ r ≡ verdictOf (used s) ⌝ }
 {
-    let j = rounds::all_bounds(s);
     let fault = j.fault;
     let refusal = fault.refusal;
     if refusal.code() != 0 {
@@ -64,6 +65,14 @@ pub fn verdict(s: FlowSet) -> Verdict
         tightened: admits(s, tightened),
         rounds: j.rounds,
     }
+}
+
+// The verdicts of both tests and the number of rounds.
+pub fn verdict(s: FlowSet) -> Verdict
+    ensures { λ r. ⌜ r ≡ verdictOf (used s) ⌝ }
+{
+    let j = rounds::all_bounds(s);
+    verdict_of(s, j)
 }
 
 // Deadline less tightened bound, signed.
@@ -109,11 +118,11 @@ fn bounds_at(s: FlowSet, k: usize, j: AllBounds) -> Bounds
     }
 }
 
-// C, both bounds, deadline and margin of one flow. The record check's refusals come first, then 13.
-pub fn bounds(s: FlowSet, k: u16) -> Bounds
+// C, both bounds, deadline and margin of one flow, from the bounds of all. The record check's refusals come first, then 13.
+pub fn bounds_of(s: FlowSet, k: u16, j: AllBounds) -> Bounds
+    requires { ⌜ AllBoundsOf (used s) j ⌝ }
     ensures { λ r. ⌜ r ≡ boundsOf (used s) k ⌝ }
 {
-    let j = rounds::all_bounds(s);
     let fault = j.fault;
     let refusal = fault.refusal;
     if refusal.code() != 0 {
@@ -126,4 +135,12 @@ pub fn bounds(s: FlowSet, k: u16) -> Bounds
         });
     }
     bounds_at(s, k as usize, j)
+}
+
+// C, both bounds, deadline and margin of one flow.
+pub fn bounds(s: FlowSet, k: u16) -> Bounds
+    ensures { λ r. ⌜ r ≡ boundsOf (used s) k ⌝ }
+{
+    let j = rounds::all_bounds(s);
+    bounds_of(s, k, j)
 }

@@ -7,6 +7,7 @@ ghost use Rattle.model.specs.Sets.{used};
 ghost use Rattle.model.specs.Reader.{recordFault};
 ghost use Rattle.model.specs.Program.{boundLines, runLines, planOf, planText};
 ghost use Rattle.puts.specs.Stores.{Put};
+ghost use Rattle.rounds.specs.Answers.{AllBoundsOf};
 ghost use Rattle.plan_text.specs.Plans.{planAnswer, planInto};
 use model::Fault;
 use model::FlowSet;
@@ -17,16 +18,18 @@ use printing::put_bound;
 use printing::put_refused;
 use printing::put_sends;
 use printing::put_verdict;
+use rounds::AllBounds;
 
-// The `bound` lines of a set's flows.
-fn put_bounds(out: &mut [u8], at: usize, s: FlowSet) -> usize
+// The `bound` lines of a set's flows, from the bounds of all.
+fn put_bounds(out: &mut [u8], at: usize, s: FlowSet, j: AllBounds) -> usize
+    requires { ⌜ AllBoundsOf (used s) j ⌝ }
     ensures { λ r. ⌜ Put (now (out .entry)) at (boundLines (used s) (s .count)) (now (out .exit)) r ⌝ }
 {
     let n = s.count;
     let mut place = at;
     let mut k: u16 = 0;
     while k < n {
-        let b = delay::bounds(s, k);
+        let b = delay::bounds_of(s, k, j);
         place = put_bound(out, place, k, b);
         k += 1;
     }
@@ -52,14 +55,15 @@ fn put_run(out: &mut [u8], at: usize, s: FlowSet) -> usize
     place
 }
 
-// The plan of a set that was read.
+// The plan of a set that was read; the rounds are made once.
 fn put_plan(out: &mut [u8], s: FlowSet) -> usize
     requires { ⌜ recordFault (used s) ≡ noFault ⌝ }
     ensures { λ r. ⌜ Put (now (out .entry)) 0 (planOf (used s)) (now (out .exit)) r × (length (planOf (used s)) ≤ 18432) ⌝ }
 {
-    let v = delay::verdict(s);
+    let j = rounds::all_bounds(s);
+    let v = delay::verdict_of(s, j);
     let first = put_verdict(out, 0, v);
-    let second = put_bounds(out, first, s);
+    let second = put_bounds(out, first, s, j);
     put_run(out, second, s)
 }
 

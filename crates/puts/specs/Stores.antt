@@ -57,6 +57,12 @@ put-put o at a m r b n q h p s =
               ∙ sym (sets-out b (sets o at a) (at + length a) (omega (arith, length-sets o at a)))
         ]
 
+-- the place and the contents after are fixed by the contents before
+pub put-once : (o p : List ℕ) (at : ℕ) (bytes m : List ℕ) (r : ℕ) (n : List ℕ) (q : ℕ) → o ≡ p → Put o at bytes m r → Put p at bytes n q
+    → (r ≡ q) × (m ≡ n)
+put-once o p at bytes m r n q e a b =
+    (a .place ∙ sym (b .place), a .stored ∙ ap (λ (l : List ℕ). sets l at bytes) e ∙ sym (b .stored))
+
 pub put-same : (o : List ℕ) (at : ℕ) (a b : List ℕ) (n : List ℕ) (q : ℕ) → a ≡ b → Put o at a n q → Put o at b n q
 put-same o at a b n q e p = subst (λ (l : List ℕ). Put o at l n q) e p
 

@@ -1,3 +1,4 @@
+use Prim.{tt}
 use mathlib.Core.Path.{_≡_, refl}
 use mathlib.Core.List.{_++_}
 use Prim.Native.Nat.{_+_, _-_}
@@ -10,52 +11,40 @@ use Rattle.plan_text.proofs.Planning.{bounds-more}
 use borrow.Author.Needs.{needs}
 use Rattle.plan_text.proofs.put_bounds.Statement.{statement}
 use Rattle.plan_text.proofs.put_bounds.Tie as tie
-use Rattle.plan_text.proofs.put_bounds.Reads as reads
-use Rattle.plan_text.proofs.put_bounds.Lts as lts
-use Rattle.delay.proofs.bounds.Reads as bounds-reads
-use Rattle.printing.proofs.put_bound.Reads as put-bound-reads
 
 abbrev Inv-loop : tie.InvT-loop
-Inv-loop out₀ at s n place₀ k₀ out place k = Putting out₀ at (boundLines (used s)) n out place k
+Inv-loop out₀ at s j n place₀ k₀ out place k = Putting out₀ at (boundLines (used s)) n out place k
 
 abbrev μ-loop : tie.MeasureT-loop
-μ-loop out₀ at s n place₀ k₀ out place k = n - k
+μ-loop out₀ at s j n place₀ k₀ out place k = n - k
 
--- src/plans.rt:24:5
 loop-holds : tie.Need-loop-holds Inv-loop μ-loop
 unfolding boundLines
 loop-holds c = putting-start _ _ _ _ refl (omega arith)
 
--- src/plans.rt:25:13
-bounds-requires : tie.Need-bounds-requires Inv-loop μ-loop
-bounds-requires c κs = search needs
+bounds-of-requires : tie.Need-bounds-of-requires Inv-loop μ-loop
+bounds-of-requires c κs = c .before .before .before .pre
 
--- src/plans.rt:26:9
 put-bound-requires : tie.Need-put-bound-requires Inv-loop μ-loop
-put-bound-requires c κs = search needs
+put-bound-requires c κs = tt
 
--- src/plans.rt:27:9
 add-k : tie.Need-add-k Inv-loop μ-loop
 add-k c = search needs
 
--- src/plans.rt:24:5
 loop-less : tie.Need-loop-less Inv-loop μ-loop
 loop-less c = search needs
 
--- src/plans.rt:24:5
 loop-again : tie.Need-loop-again Inv-loop μ-loop
 loop-again c =
     let l = c .before .before .before .before .before .before .loop in
     let s = c .before .before .before .before .before .before .before .before .args .s in
-    let e : boundLines (used s) (l .k) ++ boundText (l .k) (c .before .before .before .before .bounds .result) ≡ boundLines (used s) (l .k + 1) =
-    rw (c .before .before .before .before .bounds .ensures) (bounds-more (used s) (l .k)) in
+    let e : boundLines (used s) (l .k) ++ boundText (l .k) (c .before .before .before .before .bounds-of .result) ≡ boundLines (used s) (l .k + 1) =
+    rw (c .before .before .before .before .bounds-of .ensures) (bounds-more (used s) (l .k)) in
     putting-more _ _ _ _ _ _ _ (l .inv) _ _ _ (c .before .before .before .before .before .loop-test .taken) (omega arith) e (c .before .before .put-bound .ensures)
 
--- src/plans.rt:18:1
 same-length : tie.Need-same-length Inv-loop μ-loop
 same-length c = c .before .loop .inv .long
 
--- src/plans.rt:18:1
 returns : tie.Need-returns Inv-loop μ-loop
 returns c = putting-done _ _ _ _ _ _ _ (c .before .loop .inv) _ (c .loop-test .left) refl
 
@@ -66,7 +55,7 @@ put-bounds-spec =
     Inv-loop
     μ-loop
     loop-holds
-    bounds-requires
+    bounds-of-requires
     put-bound-requires
     add-k
     loop-less

@@ -1,3 +1,4 @@
+use Prim.{tt}
 use mathlib.Core.Path.{_≡_, refl, ap, _∙_}
 use Prim.Native.Nat.{_-_, _<_}
 use native.Mathlib.Omega.{arith}
@@ -9,11 +10,6 @@ use Rattle.plan_text.proofs.Planning.{run-more, run-last}
 use borrow.Author.Needs.{needs}
 use Rattle.plan_text.proofs.put_run.Statement.{statement}
 use Rattle.plan_text.proofs.put_run.Tie as tie
-use Rattle.plan_text.proofs.put_run.Reads as reads
-use Rattle.plan_text.proofs.put_run.Lts as lts
-use Rattle.model.proofs.kinds.State.fresh.Reads as fresh-reads
-use Rattle.machine.proofs.step.Reads as step-reads
-use Rattle.printing.proofs.put_sends.Reads as put-sends-reads
 
 abbrev Inv-loop : tie.InvT-loop
 Inv-loop out₀ at s st₀ place₀ t₀ out st place t = (st ≡ runOf (used s) t .last) × Putting out₀ at (runLines (used s)) 12 out place t
@@ -21,32 +17,25 @@ Inv-loop out₀ at s st₀ place₀ t₀ out st place t = (st ≡ runOf (used s)
 abbrev μ-loop : tie.MeasureT-loop
 μ-loop out₀ at s st₀ place₀ t₀ out st place t = 12 - t
 
--- src/plans.rt:37:9
 fresh-requires : tie.Need-fresh-requires Inv-loop μ-loop
-fresh-requires c κs = search needs
+fresh-requires c κs = tt
 
--- src/plans.rt:40:5
 loop-holds : tie.Need-loop-holds Inv-loop μ-loop
 unfolding runLines runOf
 loop-holds c = (c .fresh .ensures, putting-start _ _ _ _ refl (omega arith))
 
--- src/plans.rt:41:13
 step-requires : tie.Need-step-requires Inv-loop μ-loop
-step-requires c κs = search needs
+step-requires c κs = tt
 
--- src/plans.rt:43:9
 put-sends-requires : tie.Need-put-sends-requires Inv-loop μ-loop
-put-sends-requires c κs = search needs
+put-sends-requires c κs = tt
 
--- src/plans.rt:46:9
 add-t : tie.Need-add-t Inv-loop μ-loop
 add-t c = search needs
 
--- src/plans.rt:40:5
 loop-less : tie.Need-loop-less Inv-loop μ-loop
 loop-less c = search needs
 
--- src/plans.rt:40:5
 loop-again : tie.Need-loop-again Inv-loop μ-loop
 loop-again c =
     let o = c .before .before .before .before .before .before .before .before .before .before .before in
@@ -58,11 +47,9 @@ loop-again c =
     let f = run-more s (l .t) (a .result) (o .pre) m (omega arith) e in
     (run-last (used s) (l .t) (a .result) e, putting-more _ _ _ _ _ _ _ (l .inv .1) _ _ _ (c .before .before .before .before .before .before .before .loop-test .taken) (omega arith) f (c .before .before .before .put-sends .ensures))
 
--- src/plans.rt:33:1
 same-length : tie.Need-same-length Inv-loop μ-loop
 same-length c = c .before .loop .inv .1 .long
 
--- src/plans.rt:33:1
 returns : tie.Need-returns Inv-loop μ-loop
 returns c = putting-done _ _ _ _ _ _ _ (c .before .loop .inv .1) _ (c .loop-test .left) refl
 

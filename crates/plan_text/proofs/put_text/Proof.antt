@@ -1,3 +1,4 @@
+use Prim.{tt}
 use Rattle.model.specs.declared.answers.Refusal.the-variants.{NoRoom}
 use Rattle.model.specs.Refusals.{faultAt}
 use mathlib.Core.Path.{sym, ap, _∙_}
@@ -8,55 +9,39 @@ use Rattle.puts.specs.Stores.{put-same}
 use Rattle.plan_text.specs.Readings.{read-pass}
 use Rattle.printing.specs.Codes.{is-good, not-good}
 use Rattle.plan_text.proofs.Planning.{text-long, text-good, text-refused, refused-le}
-use borrow.Author.Needs.{needs}
 use Rattle.plan_text.proofs.put_text.Statement.{statement}
 use Rattle.plan_text.proofs.put_text.Tie as tie
-use Rattle.plan_text.proofs.put_text.Reads as reads
-use Rattle.plan_text.proofs.put_text.Lts as lts
-use Rattle.model.proofs.answers.Refusal.code.Reads as code-reads
-use Rattle.plan_text.proofs.put_plan.Reads as put-plan-reads
-use Rattle.text.proofs.read.Reads as read-reads
-use Rattle.printing.proofs.put_refused.Reads as put-refused-reads
 
--- src/plans.rt:71:9
 put-refused-requires : tie.Need-put-refused-requires
-put-refused-requires c κs = search needs
+put-refused-requires c κs = tt
 
--- src/plans.rt:71:9
 same-length : tie.Need-same-length
-same-length c = search needs
+same-length c = c .before .before .put-refused .kept .0
 
--- src/plans.rt:71:9
 returns : tie.Need-returns
 returns c =
     let a = c .before .before .before .before .before .before .before .args in
     let e = text-long (a .input .now) (c .before .before .before .before .if1 .taken) in
     (put-same _ _ _ _ _ _ (sym e) (c .before .before .put-refused .ensures), rw e (refused-le (faultAt NoRoom 0)))
 
--- src/plans.rt:73:9
 read-requires : tie.Need-read-requires
-read-requires c κs = search needs
+read-requires c κs = tt
 
--- src/plans.rt:76:8
 code-requires : tie.Need-code-requires
-code-requires c κs = search needs
+code-requires c κs = tt
 
--- src/plans.rt:78:9
 put-plan-requires : tie.Need-put-plan-requires
 put-plan-requires c κs =
     let r = c .before .before .before .before .before .read .ensures in
     let g = is-good (c .before .before .before .before .before .read .result .fault .refusal) (c .before .before .before .code .ensures) (c .before .before .if2 .taken) in
     rw r (read-pass (c .before .before .before .before .before .before .before .before .before .args .input .now) (rw (← r) g))
 
--- src/plans.rt:80:9
 put-refused-requires-2 : tie.Need-put-refused-requires-2
-put-refused-requires-2 c κs = search needs
+put-refused-requires-2 c κs = tt
 
--- src/plans.rt:63:1
 same-length-2 : tie.Need-same-length-2
-same-length-2 c = search needs
+same-length-2 c = c .before .before .put-plan .kept .0
 
--- src/plans.rt:63:1
 returns-2 : tie.Need-returns-2
 returns-2 c =
     let a = c .before .before .before .before .before .before .before .before .before .before .before .before .args in
@@ -65,11 +50,9 @@ returns-2 c =
     let e = text-good (a .input .now) (c .before .before .before .before .before .before .before .before .before .if1 .left) (rw (← r) g) ∙ ap (λ (x : Reading). planOf (used (x .set))) (sym r) in
     (put-same _ _ _ _ _ _ (sym e) (c .before .before .put-plan .ensures .0), rw e (c .before .before .put-plan .ensures .1))
 
--- src/plans.rt:63:1
 same-length-3 : tie.Need-same-length-3
-same-length-3 c = search needs
+same-length-3 c = c .before .before .put-refused2 .kept .0
 
--- src/plans.rt:63:1
 returns-3 : tie.Need-returns-3
 returns-3 c =
     let a = c .before .before .before .before .before .before .before .before .before .before .before .args in
