@@ -4,6 +4,8 @@ fn main() {
     let root = std::path::Path::new(env!("CARGO_MANIFEST_DIR")).join("../..");
     let archives = root.join("target/staticlib");
     println!("cargo:rustc-link-search=native={}", archives.display());
-    println!("cargo:rustc-link-lib=static=probe");
-    println!("cargo:rerun-if-changed={}", archives.join("libprobe.a").display());
+    for name in ["probe", "planner"] {
+        println!("cargo:rustc-link-lib=static={name}");
+        println!("cargo:rerun-if-changed={}", archives.join(format!("lib{name}.a")).display());
+    }
 }

@@ -50,6 +50,14 @@ pub fn probe_write(s: FlowSet, x: &mut [u8], y: &mut [u8]) -> TwoWritten
     TwoWritten(a, b)
 }
 
+pub fn probe_plan(input: &[u8], x: &mut [u8], y: &mut [u8]) -> TwoWritten
+    ensures { λ r. ⌜ ((now (x .entry) ≡ now (y .entry)) → ((r .0 ≡ r .1) × (now (x .exit) ≡ now (y .exit)))) ⌝ }
+{
+    let a = probe::probe_plan(input, x);
+    let b = probe::probe_plan(input, y);
+    TwoWritten(a, b)
+}
+
 pub fn probe_verdict(s: FlowSet) -> TwoVerdict
     ensures { λ r. ⌜ r .0 ≡ r .1 ⌝ }
 {

@@ -1,4 +1,5 @@
-// What C cannot reach, exported for the tests alone: every function over a record, with the refusal as document 01's number.
+// What C cannot reach, exported for the tests alone: every function over a record and the plan's text, with the refusal as document
+// 01's number.
 ghost use mathlib.Core.Path.{_≡_};
 ghost use lib.ListN.{length};
 ghost use Rattle.model.specs.Reader.{recordFault, readText, writeAnswer, writeInto};
@@ -6,6 +7,7 @@ ghost use Rattle.model.specs.Delay.{verdictOf, boundsOf};
 ghost use Rattle.model.specs.Machine.{stepOf, runOf};
 ghost use Rattle.model.specs.Sets.{used};
 ghost use Rattle.model.specs.Sums.{bit};
+ghost use Rattle.plan_text.specs.Plans.{planAnswer, planInto};
 ghost use Rattle.probe.specs.Told.{told, toldReading, toldWritten, toldVerdict, toldBounds, toldStepped, toldRan};
 use model::Bounds;
 use model::ChannelMap;
@@ -138,6 +140,17 @@ pub extern "C" fn probe_write(s: FlowSet, out: &mut [u8]) -> ProbeWritten
         ⌝ }
 {
     told_written(writer::write(s, out))
+}
+
+// The plan program's text.
+#[no_mangle]
+pub extern "C" fn probe_plan(input: &[u8], out: &mut [u8]) -> ProbeWritten
+    ensures { λ r. ⌜
+        (r ≡ toldWritten (planAnswer (now (input .entry)) (length (now (out .entry)))))
+        × (now (out .exit) ≡ planInto (now (input .entry)) (now (out .entry)))
+        ⌝ }
+{
+    told_written(plan_text::plan(input, out))
 }
 
 fn told_verdict(a: Verdict) -> ProbeVerdict

@@ -122,6 +122,11 @@ extern "C" {
     fn probe_bounds(s: RawSet, flow: u16) -> Bounds;
     fn probe_step(s: RawSet, st: RawState) -> RawStepped;
     fn probe_run(s: RawSet, budget: u32) -> RawRan;
+    fn probe_plan(input: *const u8, input_length: usize, out: *mut u8, length: usize) -> Written;
+    // include/rembasuk.h: its answers begin with the refusal and the line, as a fault does.
+    fn rembasuk_verdict(text: *const u8, length: usize) -> Verdict;
+    fn rembasuk_bounds(text: *const u8, length: usize, flow: u32) -> Bounds;
+    fn rembasuk_slot(text: *const u8, length: usize, state: *mut u8, state_length: usize, lines: *mut u8, lines_length: usize) -> Written;
 }
 
 fn raw_flow(f: &Flow) -> RawFlow {
@@ -222,4 +227,24 @@ pub fn read(text: &[u8]) -> (Fault, Set) {
 /// The reader alone, for measuring: its answer is not taken apart.
 pub fn read_only(text: &[u8]) -> u32 {
     unsafe { probe_read(text.as_ptr(), text.len()) }.fault.refusal
+}
+
+/// The plan program's text, at the start of a buffer.
+pub fn plan(input: &[u8], out: &mut [u8]) -> Written {
+    unsafe { probe_plan(input.as_ptr(), input.len(), out.as_mut_ptr(), out.len()) }
+}
+
+/// What C is told of a text: both verdicts.
+pub fn text_verdict(text: &[u8]) -> Verdict {
+    unsafe { rembasuk_verdict(text.as_ptr(), text.len()) }
+}
+
+/// What C is told of a text: one flow's bounds.
+pub fn text_bounds(text: &[u8], flow: u32) -> Bounds {
+    unsafe { rembasuk_bounds(text.as_ptr(), text.len(), flow) }
+}
+
+/// C's step over a text: the next state and the slot's lines.
+pub fn text_slot(text: &[u8], state: &mut [u8], lines: &mut [u8]) -> Written {
+    unsafe { rembasuk_slot(text.as_ptr(), text.len(), state.as_mut_ptr(), state.len(), lines.as_mut_ptr(), lines.len()) }
 }

@@ -1,16 +1,20 @@
 //! Compares the proved planner with the second one on every function, for a bounded time, with seeds that it prints.
-//! A difference prints the input as text and fails. Every refusal number must have been seen.
+//! A difference prints the input as text and fails. Every refusal number must have been seen, also through the functions that a user
+//! holds.
 
-use compare::{Fault, Record};
+mod calls;
+
+use compare::{Bounds, Fault, Record, Verdict};
 use second::inputs::{records, sets, texts, Rng};
 use second::write::text_of;
 use second::{Machine, Planner, Refusal, Set, Slot, State};
 use std::time::{Duration, Instant};
 
-/// What was compared, and how often each refusal was made.
+/// What was compared, and how often each refusal was made, by any function and by those that a user holds.
 struct Tally {
     seed: u64,
     refusals: [u64; 14],
+    called: [u64; 14],
     inputs: u64,
     slots: u64,
     packets: u64,
@@ -44,24 +48,33 @@ fn main() {
     let seconds = std::env::args().nth(1).and_then(|s| s.parse().ok()).unwrap_or(100);
     let first: u64 = std::env::args().nth(2).and_then(|s| s.parse().ok()).unwrap_or(1);
     let end = Instant::now() + Duration::from_secs(seconds);
-    let mut tally = Tally { seed: first, refusals: [0; 14], inputs: 0, slots: 0, packets: 0, admitted: 0 };
+    let mut tally = Tally { seed: first, refusals: [0; 14], called: [0; 14], inputs: 0, slots: 0, packets: 0, admitted: 0 };
     named(&mut tally);
+    calls::named(&mut tally);
     while Instant::now() < end {
         let mut rng = Rng::new(tally.seed);
         for _ in 0..20 {
             read_and_write(&mut tally, &texts::any(&mut rng));
             over_record(&mut tally, &mut rng);
+            let text = if rng.once_in(2) { texts::good(&mut rng) } else { texts::any(&mut rng) };
+            calls::over_text(&mut tally, &mut rng, &text);
         }
         long_run(&mut tally, &mut rng);
+        calls::walk(&mut tally, &mut rng);
         tally.seed += 1;
     }
     println!("seeds {first} to {}: {} comparisons, {} slots, {} packets of {} admitted sets", tally.seed - 1, tally.inputs, tally.slots,
         tally.packets, tally.admitted);
-    println!("refusals seen: {}", (0..14).map(|n| format!("{n}: {}", tally.refusals[n])).collect::<Vec<_>>().join(", "));
-    if tally.refusals.contains(&0) {
+    println!("refusals seen: {}", counts(&tally.refusals));
+    println!("refusals seen of rembasuk_verdict, rembasuk_bounds, rembasuk_slot and plan: {}", counts(&tally.called));
+    if tally.refusals.contains(&0) || tally.called.contains(&0) {
         println!("a refusal number was never seen");
         std::process::exit(1);
     }
+}
+
+fn counts(refusals: &[u64; 14]) -> String {
+    (0..14).map(|n| format!("{n}: {}", refusals[n])).collect::<Vec<_>>().join(", ")
 }
 
 /// The reader, and the writer on what was read.
@@ -101,16 +114,22 @@ fn write_record(tally: &mut Tally, rng: &mut Rng, set: &Set, record: &Record) {
 }
 
 fn delays(tally: &mut Tally, rng: &mut Rng, set: &Set, record: &Record) {
-    let (a, b) = (record.verdict(), second::verdict(set));
+    hold_verdict(tally, set, record.verdict(), second::verdict(set));
+    for k in [0, rng.below(64) as u16, rng.below(66) as u16, rng.word()] {
+        hold_bounds(tally, set, record.bounds(k), second::bound(set, k.into()));
+    }
+}
+
+fn hold_verdict(tally: &mut Tally, set: &Set, a: Verdict, b: second::Verdict) {
     tally.fault("the verdict's refusal", set, a.fault, b.refusal);
     let same = (a.basic, a.tightened, a.rounds) == (b.basic.into(), b.tightened.into(), b.rounds);
     tally.hold("the verdict", set, same, || format!("{a:?}, {b:?}"));
-    for k in [0, rng.below(64) as u16, rng.below(66) as u16, rng.word()] {
-        let (a, b) = (record.bounds(k), second::bound(set, k.into()));
-        tally.fault("a bound's refusal", set, a.fault, b.refusal);
-        let same = (a.work, a.basic, a.tightened, a.deadline, a.margin) == (b.c, b.basic, b.tightened, b.deadline, b.margin);
-        tally.hold("a bound", set, same, || format!("flow {k}: {a:?}, {b:?}"));
-    }
+}
+
+fn hold_bounds(tally: &mut Tally, set: &Set, a: Bounds, b: second::Bound) {
+    tally.fault("a bound's refusal", set, a.fault, b.refusal);
+    let same = (a.work, a.basic, a.tightened, a.deadline, a.margin) == (b.c, b.basic, b.tightened, b.deadline, b.margin);
+    tally.hold("a bound", set, same, || format!("{a:?}, {b:?}"));
 }
 
 /// One step from a state, refused or not.

@@ -1,0 +1,124 @@
+//! What a user holds: the three functions that C calls and the plan, over good and damaged texts, short and exact buffers, good and bad
+//! states. On a refusal neither buffer changes; otherwise the bytes after what was written stay.
+
+use crate::{hold_bounds, hold_verdict, Tally};
+use second::host::{bound_of_text, bytes_of_state, step_of_text, verdict_of_text};
+use second::inputs::{records, sets, texts, Rng};
+use second::plan::MOST_BYTES;
+use second::write::text_of;
+use second::{Refusal, Set, State};
+
+/// What stands in a buffer before a call.
+const BEFORE: u8 = 0x5a;
+
+/// A text with the set that is printed where the planners differ.
+struct Text<'a> {
+    bytes: &'a [u8],
+    set: Set,
+}
+
+impl Text<'_> {
+    fn new(bytes: &[u8]) -> Text<'_> {
+        Text { bytes, set: second::read(bytes).set }
+    }
+
+    fn told(&self) -> String {
+        String::from_utf8_lossy(self.bytes).into()
+    }
+}
+
+/// Every call over one text.
+pub fn over_text(tally: &mut Tally, rng: &mut Rng, bytes: &[u8]) {
+    let text = Text::new(bytes);
+    let other = verdict_of_text(bytes);
+    count(tally, other.refusal);
+    hold_verdict(tally, &text.set, compare::text_verdict(bytes), other);
+    for flow in [0, rng.below(66) as u32, rng.bits() as u32, 65_536 + rng.below(64) as u32] {
+        let other = bound_of_text(bytes, flow);
+        count(tally, other.refusal);
+        hold_bounds(tally, &text.set, compare::text_bounds(bytes, flow), other);
+    }
+    let state = records::state_bytes(rng, &text.set);
+    one_slot(tally, rng, &text, &state);
+    plan(tally, rng, &text);
+}
+
+/// Slots of one text one after the other, from the fresh state.
+pub fn walk(tally: &mut Tally, rng: &mut Rng) {
+    let bytes = text_of(&sets::any(rng));
+    let text = Text::new(&bytes);
+    let mut state = bytes_of_state(&State::FRESH).to_vec();
+    for _ in 0..20 {
+        state = one_slot(tally, rng, &text, &state);
+    }
+}
+
+/// Every refusal of a text and of a state, and the longest input that is read with one byte more.
+pub fn named(tally: &mut Tally) {
+    let mut rng = Rng::new(tally.seed);
+    for faults in texts::pairs() {
+        let damaged = texts::damaged(&mut rng, faults);
+        over_text(tally, &mut rng, &damaged.text);
+    }
+    for length in [MOST_BYTES, MOST_BYTES + 1] {
+        plan(tally, &mut rng, &Text::new(&vec![b'x'; length]));
+    }
+    let text = Text::new(b"set\t1\nflow\t10\t10\t0\t2\t1\t2\n");
+    for slot in [0, 3_999_999_999, 4_000_000_000, 4_000_000_001] {
+        let state = bytes_of_state(&State { slot, ..State::FRESH });
+        for length in [0, 67, 68, 69] {
+            let mut bytes = state.to_vec();
+            bytes.resize(length, 0);
+            for _ in 0..4 {
+                one_slot(tally, &mut rng, &text, &bytes);
+            }
+        }
+    }
+}
+
+fn count(tally: &mut Tally, refusal: Refusal) {
+    tally.called[usize::from(refusal.number)] += 1;
+}
+
+/// A buffer's length: that of the text to be written, one less, a few more, none, or plenty.
+fn room(rng: &mut Rng, length: usize) -> usize {
+    rng.pick(&[length, length.saturating_sub(1), length + 3, 0, length + 500])
+}
+
+/// One slot from a state's bytes, and those that it left.
+fn one_slot(tally: &mut Tally, rng: &mut Rng, text: &Text, state: &[u8]) -> Vec<u8> {
+    let length = step_of_text(text.bytes, &mut state.to_vec(), &mut [0; 2000]).bytes;
+    let before = vec![BEFORE; room(rng, length)];
+    let (mut our_state, mut our_lines) = (state.to_vec(), before.clone());
+    let (mut their_state, mut their_lines) = (state.to_vec(), before.clone());
+    let a = compare::text_slot(text.bytes, &mut our_state, &mut our_lines);
+    let b = step_of_text(text.bytes, &mut their_state, &mut their_lines);
+    count(tally, b.refusal);
+    tally.slots += 1;
+    let told = || format!("{a:?}, {b:?}, state {state:?}, room {}, {}", before.len(), text.told());
+    tally.fault("a slot's refusal", &text.set, a.fault, b.refusal);
+    let same = a.length == b.bytes && our_state == their_state && our_lines == their_lines;
+    tally.hold("what a slot left", &text.set, same, told);
+    if a.fault.refusal == 0 {
+        tally.hold("the bytes after a slot's lines", &text.set, our_lines[a.length..] == before[a.length..], told);
+    } else {
+        tally.hold("what a refused slot left", &text.set, our_state == state && our_lines == before, told);
+    }
+    our_state
+}
+
+/// The plan's text in a buffer of any length; 10 for one that is too short, which stays as it was.
+fn plan(tally: &mut Tally, rng: &mut Rng, text: &Text) {
+    let planned = second::plan(text.bytes);
+    let before = vec![BEFORE; room(rng, planned.len())];
+    let mut out = before.clone();
+    let a = compare::plan(text.bytes, &mut out);
+    let fits = planned.len() <= before.len();
+    let refusal = if fits { Refusal::NONE } else { Refusal::at(10, 0) };
+    count(tally, refusal);
+    let told = || format!("{a:?}, room {}, {}", before.len(), text.told());
+    tally.fault("the plan's refusal", &text.set, a.fault, refusal);
+    let length = if fits { planned.len() } else { 0 };
+    let same = a.length == length && out[..length] == planned[..length] && out[length..] == before[length..];
+    tally.hold("the plan", &text.set, same, told);
+}
