@@ -6,8 +6,7 @@ ghost use Rattle.model.specs.Sums.{bit, sumTo};
 ghost use Rattle.model.specs.Sets.{memb, exact, used};
 ghost use Rattle.model.specs.Delay.{links, touches, conflictWork};
 ghost use Rattle.laws.specs.Accepted.{Accepted};
-ghost use Rattle.conflict.specs.Grid.{conflictOf, RowsTo, RowDone, GridOf};
-ghost use Rattle.conflict.specs.Judged.{judged};
+ghost use Rattle.conflict.specs.Grid.{conflictOf, RowsTo, RowDone};
 ghost use Rattle.conflict.specs.Marks.{Marked};
 use model::Flow;
 use model::FlowSet;
@@ -117,35 +116,15 @@ fn conflict_row(s: FlowSet, k: usize, t: &mut [u16; PAIRS])
     }
 }
 
-// S of every pair of flows of an accepted set.
-fn conflicts_of(s: FlowSet) -> [u16; PAIRS]
-    requires { ⌜ Accepted (used s) ⌝ }
-    ensures { λ r. ⌜ RowsTo (conflictOf (used s)) (s .count) (s .count) r ⌝ }
+// S of every pair, by a search of the two routes.
+pub fn search(s: FlowSet, t: &mut [u16; PAIRS])
+    requires { ⌜ Accepted (used s) × RowsTo (conflictOf (used s)) (s .count) 0 (now t) ⌝ }
+    ensures { λ r. ⌜ RowsTo (conflictOf (used s)) (s .count) (s .count) (now (t .exit)) ⌝ }
 {
-    let mut t = [0u16; PAIRS];
     let n = s.count as usize;
     let mut k: usize = 0;
     while k < n {
-        conflict_row(s, k, &mut t);
+        conflict_row(s, k, t);
         k += 1;
     }
-    t
-}
-
-// A number for each pair of flows.
-pub struct Grid {
-    pub cells: [u16; PAIRS],
-}
-
-// S of every pair of flows; all 0 for a set that the record check refuses.
-pub fn conflicts(s: FlowSet) -> Grid
-    ensures { λ r. ⌜ GridOf conflictOf (judged (used s)) (r .cells) ⌝ }
-{
-    let refusal = rules::record_fault(s).refusal;
-    if refusal.code() == 0 {
-        return Grid {
-            cells: conflicts_of(s),
-        };
-    }
-    Grid { cells: [0; PAIRS] }
 }

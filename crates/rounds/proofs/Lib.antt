@@ -1,3 +1,2 @@
-pub mod Carry
 pub mod Turns
 pub mod Results

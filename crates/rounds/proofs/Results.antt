@@ -2,13 +2,14 @@
 use mathlib.Core.Path.{_≡_, refl, sym, ap, _∙_}
 use mathlib.Core.Bool.{Bool, true, false}
 use mathlib.Core.List.{List}
-use Prim.Native.Nat.{ℕ, _≤_, _<_}
+use Prim.Native.Nat.{ℕ, _-_, _/_, _≤_, _<_}
 use native.Mathlib.Nat.{le-trans, le-of-eq}
 use native.Mathlib.Decide.{decLe}
 use native.Mathlib.Omega.{arith}
 use borrow.Author.Tests.{le-leb, lt-leb}
-use lib.ListN.{getD, take, replicate, length-replicate}
-use lib.Seq.{getD-take}
+use lib.Arith.{bin-ind}
+use lib.Count.{ones, ones-step}
+use lib.ListN.{getD, replicate, length-replicate}
 use Rattle.model.specs.declared.kinds.FlowSet.{FlowSet}
 use Rattle.model.specs.declared.answers.Fault.{Fault}
 use Rattle.model.specs.declared.answers.Verdict.{Verdict}
@@ -17,37 +18,55 @@ use Rattle.model.specs.declared.answers.Refusal.the-variants.{NoSuchFlow}
 use Rattle.model.specs.Limits.{mostFlows}
 use Rattle.model.specs.Refusals.{good, faultAt, noFault}
 use Rattle.model.specs.Reader.{recordFault}
-use Rattle.model.specs.Delay.{basicBound, valueAt, reached, tightBound, verdictIf, verdictOf, boundsFault, boundsIf, boundsOf, deadlines}
-use Rattle.greatest.specs.Values.{value-ext, value-at-deadlines, deadlines-entry}
+use Rattle.model.specs.Delay.{ways, basicBound, valueAt, reached, tightBound, verdictIf, verdictOf, boundsFault, boundsIf, boundsOf, deadlines}
+use Rattle.greatest.specs.Values.{list-entry, value-at-deadlines, deadlines-entry}
 use Rattle.conflict.specs.Grid.{FilledTo}
-use Rattle.conflict.specs.Judged.{judged, judged-good}
 use Rattle.conflict.proofs.Fill.{zeros}
-use Rattle.shares.specs.declared.Tables.{Tables}
-use Rattle.shares.specs.Tables.{Tabled}
+use Rattle.shares.specs.Tables.{Tables, Tabled}
+use Rattle.equation.specs.Rows.{tableValue}
+use Rattle.equation.proofs.Carry.{value-carried}
 use Rattle.rounds.specs.Answers.{refusedBounds, AllBoundsOf}
-use Rattle.rounds.specs.Steps.{ValuesTo, JudgedAs}
+use Rattle.rounds.specs.Steps.{leftOf, Below, ValuesTo, JudgedAs}
 
--- the tables of a set that is not refused
-pub tabled-good : (s : FlowSet) (t : Tables) → good (recordFault s .refusal) ≡ true → Tabled (judged s) t → Tabled s t
-tabled-good s t e o = rw (judged-good s e) at o
-
--- the value at the table of deadlines is the basic bound
-pub basic-carried : (s : FlowSet) (t : Tables) → Tabled s t → (k : ℕ) → valueAt s (t .deadline) k ≡ basicBound s k
-basic-carried s t o k =
-    value-ext s (t .deadline) (deadlines s) k (λ l h. o .deadlines .entry l h ∙ sym (deadlines-entry s l h)) ∙ value-at-deadlines s k
+-- the value with nothing gone is the basic bound
+pub basic-carried : (s : FlowSet) → s .count ≤ mostFlows → (t : Tables) → Tabled s t → (m : ℕ) → m ≡ ways s → (k : ℕ) → k < s .count
+    → tableValue t m (replicate mostFlows 0) k ≡ basicBound s k
+basic-carried s n t o m c k h =
+    ap (λ (x : ℕ). tableValue t x (replicate mostFlows 0) k) c
+    ∙ value-carried s n t o (replicate mostFlows 0) k h (deadlines s) (λ l i. let z = zeros mostFlows l in let e = deadlines-entry s l i in omega arith)
+    ∙ value-at-deadlines s k
 
 -- the value at the last list is the tightened bound
-pub tight-carried : (s : FlowSet) (v : List ℕ) → take (s .count) v ≡ reached s .list → (k : ℕ) → valueAt s v k ≡ tightBound s k
+pub tight-carried : (s : FlowSet) → s .count ≤ mostFlows → (t : Tables) → Tabled s t → (m : ℕ) → m ≡ ways s → (g : List ℕ) → Below (t .deadline) g (s .count)
+    → leftOf (t .deadline) g (s .count) ≡ reached s .list → (k : ℕ) → k < s .count → tableValue t m g k ≡ tightBound s k
 unfolding tightBound
-tight-carried s v e k =
-    value-ext s v (reached s .list) k (λ l h. sym (getD-take (s .count) v l 0 h) ∙ ap (λ (u : List ℕ). getD u l 0) e)
+tight-carried s n t o m q g b e k h =
+    ap (λ (x : ℕ). tableValue t x g k) q
+    ∙ value-carried s n t o g k h (reached s .list)
+    (λ l i. let a = list-entry (λ j. getD (t .deadline) j 0 - getD g j 0) (s .count) l i in
+    let c = ap (λ (u : List ℕ). getD u l 0) e in
+    let d = o .deadlines .entry l i in
+    let p = b l i in
+    omega arith)
 
-pub values-ext : (f g : ℕ → ℕ) (n : ℕ) (x : List ℕ) → ((k : ℕ) → f k ≡ g k) → ValuesTo f n x → ValuesTo g n x
+pub values-ext : (f g : ℕ → ℕ) (n : ℕ) (x : List ℕ) → ((k : ℕ) → k < n → f k ≡ g k) → ValuesTo f n x → ValuesTo g n x
 values-ext f g n x e o =
     record {
-      entries = record { whole = o .entries .whole; entry = λ i h. o .entries .entry i h ∙ e i; none = o .entries .none };
-      small = λ i h. le-trans (le-of-eq (sym (e i))) (o .small i h);
+      entries = record { whole = o .entries .whole; entry = λ i h. o .entries .entry i h ∙ e i h; none = o .entries .none };
+      small = λ i h. le-trans (le-of-eq (sym (e i h))) (o .small i h);
     }
+
+-- a map that is not 0 has a channel
+pub ones-pos : (n : ℕ) → 0 < n → 0 < ones n
+ones-pos n = bin-ind (λ m. 0 < m → 0 < ones m) (λ h. absurd (omega arith)) step n
+  where
+    step : (m : ℕ) → (0 < m / 2 → 0 < ones (m / 2)) → 0 < m → 0 < ones m
+    step m ih h =
+        let e = ones-step m in
+        elim (decLe (m / 2) 0) [
+          | yes z ↦ omega arith
+          | no z ↦ omega (arith, ih (omega arith))
+        ]
 
 -- the two answers of a verdict
 pub verdict-good : (s : FlowSet) → good (recordFault s .refusal) ≡ true → verdictOf s ≡ verdictIf s true

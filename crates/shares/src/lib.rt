@@ -1,97 +1,16 @@
 // The shares of each pair of flows in the two delay tests, as far as no round changes them: tables that are made once.
 ghost use mathlib.Core.Path.{_≡_};
-ghost use mathlib.Core.Bool.{true};
 ghost use Prim.Native.Nat.{ℕ, _*_, _/_, _%_, _≤_, _<_};
-ghost use lib.ListN.{length};
-ghost use Rattle.model.specs.Refusals.{good};
-ghost use Rattle.model.specs.Reader.{recordFault};
+ghost use lib.ListN.{length, getD, replicate};
+ghost use Rattle.model.specs.Sums.{sumTo};
 ghost use Rattle.model.specs.Sets.{used};
-ghost use Rattle.model.specs.Delay.{workAt, deadline};
+ghost use Rattle.model.specs.Delay.{period, deadline, workAt};
 ghost use Rattle.laws.specs.Accepted.{Accepted};
-ghost use Rattle.conflict.specs.Grid.{ofOther, conflictOf, RowsTo, RowDone, FilledTo};
-ghost use Rattle.conflict.specs.Judged.{judged};
-ghost use Rattle.shares.specs.Tables.{remainderOf, wholeConflict, wholeWork, WholesOf, Tabled};
+ghost use Rattle.conflict.specs.Grid.{pairAt, ofOther, RowDone};
+ghost use Rattle.shares.specs.Tables.{tablesOf, blankTables, Tabled};
+ghost use Rattle.shares.specs.Rows.{NumbersTo, Short, wholeRow, SmallRow, Divided, RowsDone};
 use model::Flow;
 use model::FlowSet;
-
-// What the rounds look up: S and r of each pair of flows, C and D of each flow, and the sums of q·S and q·C over the others.
-pub struct Tables {
-    pub conflict: [u16; conflict::PAIRS],
-    pub remainder: [u16; conflict::PAIRS],
-    pub work: [u16; Flow::MOST],
-    pub deadline: [u16; Flow::MOST],
-    pub whole_conflict: [u32; Flow::MOST],
-    pub whole_work: [u32; Flow::MOST],
-}
-
-// q of a pair: 0 of a flow and itself.
-fn packets(k: usize, l: usize, deadline: u16, period: u16) -> u32
-    requires { ⌜ 0 < period ⌝ }
-    ensures { λ r. ⌜ (r ≡ ofOther k l (deadline / period)) × (r ≤ 65535) ⌝ }
-{
-    if l == k {
-        return 0;
-    }
-    (deadline / period) as u32
-}
-
-// r of a pair: 0 of a flow and itself.
-fn left_over(k: usize, l: usize, deadline: u16, period: u16) -> u16
-    requires { ⌜ 0 < period ⌝ }
-    ensures { λ r. ⌜ r ≡ ofOther k l (deadline % period) ⌝ }
-{
-    if l == k {
-        return 0;
-    }
-    deadline % period
-}
-
-// r of flow k and every other.
-fn remainder_row(s: FlowSet, k: usize, t: &mut [u16; conflict::PAIRS])
-    requires { ⌜ Accepted (used s) ⌝ }
-    requires { ⌜ (k < s .count) × (length (now t) ≡ 4096) ⌝ }
-    ensures { λ r. ⌜ RowDone (remainderOf (used s) k) (s .count) k (now (t .entry)) (now (t .exit)) ⌝ }
-{
-    let me = s.flows[k];
-    let n = s.count as usize;
-    let mut l: usize = 0;
-    while l < n {
-        let other = s.flows[l];
-        t[k * Flow::MOST + l] = left_over(k, l, me.deadline.0, other.period.0);
-        l += 1;
-    }
-}
-
-// r of every pair.
-fn remainders(s: FlowSet) -> [u16; conflict::PAIRS]
-    requires { ⌜ Accepted (used s) ⌝ }
-    ensures { λ r. ⌜ RowsTo (remainderOf (used s)) (s .count) (s .count) r ⌝ }
-{
-    let mut t = [0u16; conflict::PAIRS];
-    let n = s.count as usize;
-    let mut k: usize = 0;
-    while k < n {
-        remainder_row(s, k, &mut t);
-        k += 1;
-    }
-    t
-}
-
-// C of every flow.
-fn works(s: FlowSet) -> [u16; Flow::MOST]
-    requires { ⌜ Accepted (used s) ⌝ }
-    ensures { λ r. ⌜ FilledTo (workAt (used s)) (s .count) r ⌝ }
-{
-    let mut t = [0u16; Flow::MOST];
-    let n = s.count as usize;
-    let mut k: usize = 0;
-    while k < n {
-        let f = s.flows[k];
-        t[k] = f.work() as u16;
-        k += 1;
-    }
-    t
-}
 
 // A 16-bit number, with the bound that it has by its width.
 fn bounded(x: u16) -> u16
@@ -100,28 +19,70 @@ fn bounded(x: u16) -> u16
     x
 }
 
-// D of every flow.
-fn deadlines(s: FlowSet) -> [u16; Flow::MOST]
-    requires { ⌜ Accepted (used s) ⌝ }
-    ensures { λ r. ⌜ FilledTo (deadline (used s)) (s .count) r × ((k : ℕ) → k < s .count → deadline (used s) k ≤ 65535) ⌝ }
+// T, D and C of every flow.
+fn numbers(
+    s: FlowSet,
+    period: &mut [u16; Flow::MOST],
+    deadline: &mut [u16; Flow::MOST],
+    work: &mut [u16; Flow::MOST],
+)
+    requires { ⌜ Accepted (used s) × NumbersTo (used s) 0 (now period) (now deadline) (now work) ⌝ }
+    ensures { λ r. ⌜ NumbersTo (used s) (s .count) (now (period .exit)) (now (deadline .exit)) (now (work .exit)) ⌝ }
 {
-    let mut t = [0u16; Flow::MOST];
     let n = s.count as usize;
     let mut k: usize = 0;
     while k < n {
         let f = s.flows[k];
-        t[k] = bounded(f.deadline.0);
+        period[k] = f.period.0;
+        deadline[k] = bounded(f.deadline.0);
+        work[k] = f.work() as u16;
         k += 1;
     }
-    t
+}
+
+// q: how many whole periods a deadline has.
+fn quotient(deadline: u16, period: u16) -> u16
+    requires { ⌜ (0 < deadline) × (0 < period) ⌝ }
+    ensures { λ r. ⌜ r ≡ deadline / period ⌝ }
+{
+    deadline / period
+}
+
+// r: what is left of it.
+fn left_over(deadline: u16, period: u16) -> u16
+    requires { ⌜ (0 < deadline) × (0 < period) ⌝ }
+    ensures { λ r. ⌜ r ≡ deadline % period ⌝ }
+{
+    deadline % period
+}
+
+// q and r of a deadline and the first n periods, r in row k.
+fn divide(
+    k: usize,
+    n: usize,
+    deadline: u16,
+    period: &[u16; Flow::MOST],
+    q: &mut [u16; Flow::MOST],
+    remainder: &mut [u16; conflict::PAIRS],
+)
+    requires { ⌜ (k < n) × (n ≤ 64) × (0 < deadline) × ((l : ℕ) → l < n → 0 < getD (now period) l 0) ⌝ }
+    requires { ⌜ (length (now q) ≡ 64) × (length (now remainder) ≡ 4096) ⌝ }
+    ensures { λ r. ⌜ Divided k n deadline (now (period .entry)) (now (q .entry)) (now (q .exit)) (now (remainder .entry)) (now (remainder .exit)) ⌝ }
+{
+    let mut l: usize = 0;
+    while l < n {
+        q[l] = quotient(deadline, period[l]);
+        remainder[k * Flow::MOST + l] = left_over(deadline, period[l]);
+        l += 1;
+    }
 }
 
 // A whole number of packets' transmissions.
-fn times(q: u32, count: u16) -> u32
+fn times(q: u16, count: u16) -> u32
     requires { ⌜ (q ≤ 65535) × (count ≤ 64) ⌝ }
     ensures { λ r. ⌜ (r ≡ q * count) × (r ≤ 4194240) ⌝ }
 {
-    q * (count as u32)
+    (q as u32) * (count as u32)
 }
 
 // The sums of q·S and q·C over the flows other than one.
@@ -130,27 +91,24 @@ pub struct Whole {
     pub work: u32,
 }
 
-// These sums for flow k.
+// These sums for flow k, whose own q is 0.
 fn whole_of(
-    s: FlowSet,
     k: usize,
     conflict: &[u16; conflict::PAIRS],
     work: &[u16; Flow::MOST],
+    q: &[u16; Flow::MOST],
 ) -> Whole
-    requires { ⌜ Accepted (used s) ⌝ }
-    requires { ⌜ (k < s .count) × RowsTo (conflictOf (used s)) (s .count) (s .count) (now conflict) × FilledTo (workAt (used s)) (s .count) (now work) ⌝ }
-    ensures { λ r. ⌜ (r .conflict ≡ wholeConflict (used s) k) × (r .work ≡ wholeWork (used s) k) × (r .work ≤ 268431360) ⌝ }
+    requires { ⌜ (k < 64) × SmallRow (now conflict) (now work) k ⌝ }
+    ensures { λ r. ⌜ r .conflict ≡ sumTo (λ l. getD (now (q .entry)) l 0 * pairAt (now (conflict .entry)) k l) 64 ⌝ }
+    ensures { λ r. ⌜ (r .work ≡ sumTo (λ l. getD (now (q .entry)) l 0 * getD (now (work .entry)) l 0) 64) × (r .work ≤ 268431360) ⌝ }
 {
-    let me = s.flows[k];
-    let n = s.count as usize;
     let mut x: u32 = 0;
     let mut w: u32 = 0;
     let mut l: usize = 0;
-    while l < n {
-        let other = s.flows[l];
-        let q = packets(k, l, me.deadline.0, other.period.0);
-        x += times(q, conflict[k * Flow::MOST + l]);
-        w += times(q, work[l]);
+    while l < Flow::MOST {
+        let packets = bounded(q[l]);
+        x += times(packets, conflict[k * Flow::MOST + l]);
+        w += times(packets, work[l]);
         l += 1;
     }
     Whole {
@@ -159,70 +117,79 @@ fn whole_of(
     }
 }
 
-// The sums of q·S and q·C for every flow.
-pub struct Wholes {
-    pub conflict: [u32; Flow::MOST],
-    pub work: [u32; Flow::MOST],
+// r of flow k and the others, and their sums of q·S and q·C.
+fn row<'a>(
+    k: usize,
+    n: usize,
+    deadline: u16,
+    period: &'a [u16; Flow::MOST],
+    conflict: &'a [u16; conflict::PAIRS],
+    work: &'a [u16; Flow::MOST],
+    q: &mut [u16; Flow::MOST],
+    remainder: &mut [u16; conflict::PAIRS],
+) -> Whole
+    requires { ⌜ (k < n) × (n ≤ 64) × (0 < deadline) × ((l : ℕ) → l < n → 0 < getD (now period) l 0) ⌝ }
+    requires { ⌜ SmallRow (now conflict) (now work) k × Short n (now q) × (length (now remainder) ≡ 4096) ⌝ }
+    ensures { λ r. ⌜ Short n (now (q .exit)) × RowDone (λ l. ofOther k l (deadline % getD (now (period .entry)) l 0)) n k (now (remainder .entry)) (now (remainder .exit)) ⌝ }
+    ensures { λ r. ⌜ r .conflict ≡ wholeRow deadline (now (period .entry)) n k (λ l. pairAt (now (conflict .entry)) k l) ⌝ }
+    ensures { λ r. ⌜ (r .work ≡ wholeRow deadline (now (period .entry)) n k (λ l. getD (now (work .entry)) l 0)) × (r .work ≤ 268431360) ⌝ }
+{
+    divide(k, n, deadline, period, q, remainder);
+    q[k] = 0;
+    remainder[k * Flow::MOST + k] = 0;
+    whole_of(k, conflict, work, q)
 }
 
-fn whole_sums(s: FlowSet, conflict: &[u16; conflict::PAIRS], work: &[u16; Flow::MOST]) -> Wholes
-    requires { ⌜ Accepted (used s) ⌝ }
-    requires { ⌜ RowsTo (conflictOf (used s)) (s .count) (s .count) (now conflict) × FilledTo (workAt (used s)) (s .count) (now work) ⌝ }
-    ensures { λ r. ⌜ WholesOf (used s) (s .count) (r .conflict) (r .work) ⌝ }
+// r of every pair, and the sums of q·S and q·C for every flow.
+fn rows<'a>(
+    n: usize,
+    period: &'a [u16; Flow::MOST],
+    deadline: &'a [u16; Flow::MOST],
+    conflict: &'a [u16; conflict::PAIRS],
+    work: &'a [u16; Flow::MOST],
+    remainder: &mut [u16; conflict::PAIRS],
+    whole_conflict: &mut [u32; Flow::MOST],
+    whole_work: &mut [u32; Flow::MOST],
+)
+    requires { ⌜ (n ≤ 64) × ((l : ℕ) → l < n → (0 < getD (now period) l 0) × (0 < getD (now deadline) l 0)) × ((k : ℕ) → SmallRow (now conflict) (now work) k) ⌝ }
+    requires { ⌜ RowsDone n 0 (now period) (now deadline) (now conflict) (now work) (now remainder) (now «whole_conflict») (now «whole_work») ⌝ }
+    ensures { λ r. ⌜ RowsDone n n (now (period .entry)) (now (deadline .entry)) (now (conflict .entry)) (now (work .entry)) (now (remainder .exit)) (now («whole_conflict» .exit)) (now («whole_work» .exit)) ⌝ }
 {
-    let mut xs = [0u32; Flow::MOST];
-    let mut ws = [0u32; Flow::MOST];
-    let n = s.count as usize;
+    let mut q = [0u16; Flow::MOST];
     let mut k: usize = 0;
     while k < n {
-        let sums = whole_of(s, k, conflict, work);
-        xs[k] = sums.conflict;
-        ws[k] = sums.work;
+        let sums = row(k, n, deadline[k], period, conflict, work, &mut q, remainder);
+        whole_conflict[k] = sums.conflict;
+        whole_work[k] = sums.work;
         k += 1;
     }
-    Wholes {
-        conflict: xs,
-        work: ws,
-    }
 }
 
-// The tables of an accepted set.
-fn tables_of(s: FlowSet) -> Tables
-    requires { ⌜ good (recordFault (used s) .refusal) ≡ true ⌝ }
-    ensures { λ r. ⌜ Tabled (used s) r ⌝ }
+// The tables of an accepted set, in arrays that are lent blank.
+pub fn tabulate(
+    s: FlowSet,
+    conflict: &mut [u16; conflict::PAIRS],
+    remainder: &mut [u16; conflict::PAIRS],
+    work: &mut [u16; Flow::MOST],
+    deadline: &mut [u16; Flow::MOST],
+    whole_conflict: &mut [u32; Flow::MOST],
+    whole_work: &mut [u32; Flow::MOST],
+)
+    requires { ⌜ Accepted (used s) ⌝ }
+    requires { ⌜ tablesOf (now conflict) (now remainder) (now work) (now deadline) (now «whole_conflict») (now «whole_work») ≡ blankTables ⌝ }
+    ensures { λ r. ⌜ Tabled (used s) (tablesOf (now (conflict .exit)) (now (remainder .exit)) (now (work .exit)) (now (deadline .exit)) (now («whole_conflict» .exit)) (now («whole_work» .exit))) ⌝ }
 {
-    let grid = conflict::conflicts(s);
-    let conflict = grid.cells;
-    let remainder = remainders(s);
-    let work = works(s);
-    let deadline = deadlines(s);
-    let sums = whole_sums(s, &conflict, &work);
-    let whole_conflict = sums.conflict;
-    let whole_work = sums.work;
-    Tables {
-        conflict,
-        remainder,
-        work,
+    let mut period = [0u16; Flow::MOST];
+    numbers(s, &mut period, deadline, work);
+    meetings::conflicts(s, conflict);
+    rows(
+        s.count as usize,
+        &period,
         deadline,
+        conflict,
+        work,
+        remainder,
         whole_conflict,
         whole_work,
-    }
-}
-
-// The tables of a set, or of none where the record check refuses it.
-pub fn tabulate(s: FlowSet) -> Tables
-    ensures { λ r. ⌜ Tabled (judged (used s)) r ⌝ }
-{
-    let refusal = rules::record_fault(s).refusal;
-    if refusal.code() == 0 {
-        return tables_of(s);
-    }
-    Tables {
-        conflict: [0; conflict::PAIRS],
-        remainder: [0; conflict::PAIRS],
-        work: [0; Flow::MOST],
-        deadline: [0; Flow::MOST],
-        whole_conflict: [0; Flow::MOST],
-        whole_work: [0; Flow::MOST],
-    }
+    );
 }

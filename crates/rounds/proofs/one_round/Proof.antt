@@ -1,60 +1,51 @@
 -- `one_round`: as far as flow k the list is the definition's, since the value read off the tables is the definition's. Assumes nothing beyond its `requires`.
-use mathlib.Core.Path.{_≡_, refl, ap, _∙_}
+use mathlib.Core.Path.{_≡_, sym, ap, _∙_}
+use mathlib.Core.Bool.{true, false}
 use Prim.Native.Nat.{ℕ, _-_, _≤_, _<_}
 use native.Mathlib.Omega.{arith}
-use lib.ListN.{length, take, length-set}
-use Rattle.model.specs.Sets.{used}
-use Rattle.model.specs.Delay.{roundTo}
-use Rattle.rounds.specs.Rows.{tablesOf, tableValue}
-use Rattle.rounds.proofs.Carry.{value-carried, ordered-carried, ones-pos}
-use Rattle.rounds.proofs.Turns.{round-next}
+use lib.ListN.{length, getD}
+use Rattle.shares.specs.Tables.{tablesOf}
+use Rattle.rounds.proofs.Turns.{Underway, underway-start, underway-done, underway-falls, underway-stays}
 use borrow.Author.Needs.{needs}
 use Rattle.rounds.proofs.one_round.Statement.{statement}
 use Rattle.rounds.proofs.one_round.Tie as tie
 
 abbrev Inv-loop : tie.InvT-loop
-Inv-loop s conflict remainder work deadline whole-conflict whole-work list n m v₀ k₀ v k =
-    (k ≤ s .count) × (s .count ≤ 64) × (length v ≡ 64) × (take (s .count) v ≡ roundTo (used s) (take (s .count) list) k)
+Inv-loop n m conflict remainder work deadline whole-conflict whole-work gone₀ changed₀ k₀ gone changed k =
+    (k ≤ n) × Underway (tablesOf conflict remainder work deadline whole-conflict whole-work) n m gone₀ gone k changed
 
 abbrev μ-loop : tie.MeasureT-loop
-μ-loop s conflict remainder work deadline whole-conflict whole-work list n m v₀ k₀ v k = s .count - k
-
-cast-n : tie.Need-cast-n Inv-loop μ-loop
-cast-n c = search needs
-
-ways-requires : tie.Need-ways-requires Inv-loop μ-loop
-ways-requires c κs = search needs
+μ-loop n m conflict remainder work deadline whole-conflict whole-work gone₀ changed₀ k₀ gone changed k = n - k
 
 loop-holds : tie.Need-loop-holds Inv-loop μ-loop
-unfolding used roundTo
-loop-holds c = (search needs, c .before .before .pre .0 .count-le, search needs, refl)
-
-cast-if1 : tie.Need-cast-if1 Inv-loop μ-loop
-cast-if1 c = search needs
+loop-holds c = (search needs, underway-start _ _ _ _ (c .pre .0 .2) (c .pre .0 .3))
 
 value-requires : tie.Need-value-requires Inv-loop μ-loop
-unfolding used
 value-requires c κs =
-    let i = c .before in
-    let w = i .before .before in
-    let b = w .before .before .before in
-    let m : 0 < w .before .ways .result = omega (arith, ones-pos (b .args .s .map .0) (b .pre .0 .some-channel)) in
-    ((i .if1 .taken, w .loop .inv .1, m), ordered-carried (used (b .args .s)) _ (b .pre .1) _ (w .loop .k) (i .if1 .taken))
+    let b = c .before .before .before in
+    let h = c .before .loop-test .taken in
+    ((omega arith, b .pre .0 .1), b .pre .1 _ (c .before .before .loop .k) h)
 
-mul-old : tie.Need-mul-old Inv-loop μ-loop
-mul-old c = search needs
+mul-fall : tie.Need-mul-fall Inv-loop μ-loop
+mul-fall c = search needs
 
-array-read-old : tie.Need-array-read-old Inv-loop μ-loop
-array-read-old c = omega arith
+element-copy-out-fall : tie.Need-element-copy-out-fall Inv-loop μ-loop
+element-copy-out-fall c = search needs
 
-smaller-requires : tie.Need-smaller-requires Inv-loop μ-loop
-smaller-requires c κs = search needs
+fall-requires : tie.Need-fall-requires Inv-loop μ-loop
+fall-requires c κs = search needs
 
-mul-v : tie.Need-mul-v Inv-loop μ-loop
-mul-v c = search needs
+mul-if1 : tie.Need-mul-if1 Inv-loop μ-loop
+mul-if1 c = search needs
 
-array-write-v : tie.Need-array-write-v Inv-loop μ-loop
-array-write-v c = omega arith
+element-copy-out-if1 : tie.Need-element-copy-out-if1 Inv-loop μ-loop
+element-copy-out-if1 c = search needs
+
+mul-gone : tie.Need-mul-gone Inv-loop μ-loop
+mul-gone c = search needs
+
+element-write-gone : tie.Need-element-write-gone Inv-loop μ-loop
+element-write-gone c = search needs
 
 add-k : tie.Need-add-k Inv-loop μ-loop
 add-k c = search needs
@@ -63,32 +54,36 @@ loop-less : tie.Need-loop-less Inv-loop μ-loop
 loop-less c = search needs
 
 loop-again : tie.Need-loop-again Inv-loop μ-loop
-unfolding used
 loop-again c =
-    let i = c .before .before .before in
-    let w = i .before .before in
-    let b = w .before .before .before in
-    let a = b .args in
-    let t = tablesOf (a .conflict .now) (a .remainder .now) (a .work .now) (a .deadline .now) (a .whole-conflict .now) (a .whole-work .now) in
-    let x =
-    c .before .value .ensures .0
-    ∙ ap (λ (y : ℕ). tableValue t y (w .loop .v) (a .s .count) (w .loop .k)) (w .before .ways .ensures)
-    ∙ value-carried (used (a .s)) t (b .pre .1) (w .loop .v) (w .loop .k) (i .if1 .taken) in (
-      search needs,
-      search needs,
-      simp length-set (w .loop .inv .2),
-      rw (c .smaller .ensures) (round-next (used (a .s)) _ (w .loop .v) (w .loop .k) (c .before .value .result) (i .if1 .taken) x (w .loop .inv .3)),
-    )
+    let w = c .before .before .before .before .before .before .before .loop in
+    let b = c .before .before .before .before .before .before .before .before in
+    let h = c .before .before .before .before .before .before .loop-test .taken in
+    let x = c .before .before .before .before .value in
+    let f = c .before .before .fall .ensures in
+    let i : getD (w .gone) (w .k) 0 < getD (b .args .deadline .now) (w .k) 0 - x .result = rw (← f) (c .if1 .taken) in
+    (search needs, rw f (underway-falls _ _ _ _ _ (w .k) _ (w .inv .1) h (b .pre .0 .0) (x .result) (x .ensures .0) i))
 
-differ-requires : tie.Need-differ-requires Inv-loop μ-loop
-differ-requires c κs = omega arith
+add-k-2 : tie.Need-add-k-2 Inv-loop μ-loop
+add-k-2 c = search needs
+
+loop-less-2 : tie.Need-loop-less-2 Inv-loop μ-loop
+loop-less-2 c = search needs
+
+loop-again-2 : tie.Need-loop-again-2 Inv-loop μ-loop
+loop-again-2 c =
+    let w = c .before .before .before .before .before .before .before .loop in
+    let b = c .before .before .before .before .before .before .before .before in
+    let h = c .before .before .before .before .before .before .loop-test .taken in
+    let x = c .before .before .before .before .value in
+    let f = c .before .before .fall .ensures in
+    let i : getD (b .args .deadline .now) (w .k) 0 - x .result ≤ getD (w .gone) (w .k) 0 = rw (← f) (c .if1 .left) in
+    (search needs, underway-stays _ _ _ _ _ (w .k) _ (w .inv .1) h (b .pre .0 .0) (x .result) (x .ensures .0) i)
 
 returns : tie.Need-returns Inv-loop μ-loop
-unfolding used
 returns c =
-    let w = c .before .before .before in
-    let e : w .loop .k ≡ w .before .before .before .args .s .count = omega arith in
-    record { list = rw e at (w .loop .inv .3); flag = c .differ .ensures }
+    let w = c .before .loop in
+    let e : w .k ≡ c .before .before .args .n = omega arith in
+    (underway-done _ _ _ _ _ _ (rw e at (w .inv .1)), (w .inv .1 .whole, w .inv .1 .below))
 
 pub one-round-spec : {M : Type 1} → statement M
 one-round-spec =
@@ -96,18 +91,19 @@ one-round-spec =
     (tie.spec
     Inv-loop
     μ-loop
-    cast-n
-    ways-requires
     loop-holds
-    cast-if1
     value-requires
-    mul-old
-    array-read-old
-    smaller-requires
-    mul-v
-    array-write-v
+    mul-fall
+    element-copy-out-fall
+    fall-requires
+    mul-if1
+    element-copy-out-if1
+    mul-gone
+    element-write-gone
     add-k
     loop-less
     loop-again
-    differ-requires
+    add-k-2
+    loop-less-2
+    loop-again-2
     returns)

@@ -1,38 +1,41 @@
--- `tabulate`: the record check decides between the set's tables and those of no flows. Assumes nothing beyond its `requires`.
+-- `tabulate`: the flows' numbers, S, and the rows made of them. Assumes nothing beyond its `requires`.
 use mathlib.Core.Path.{_≡_}
-use mathlib.Core.Bool.{true}
-use Rattle.model.specs.Refusals.{good}
-use Rattle.model.specs.Reader.{recordFault}
 use Rattle.model.specs.Sets.{used}
-use Rattle.conflict.specs.Judged.{judged-good, judged-bad}
-use Rattle.conflict.proofs.Checked.{number-zero, number-other}
-use Rattle.shares.proofs.Terms.{tabled-blank}
+use Rattle.conflict.proofs.Checked.{count-at}
+use Rattle.shares.proofs.Terms.{numbers-lent, conflicts-lent, done-lent, small-rows, rows-pos, tabled}
 use borrow.Author.Needs.{needs}
 use Rattle.shares.proofs.tabulate.Statement.{statement}
 use Rattle.shares.proofs.tabulate.Tie as tie
 
--- where the record check has passed
-passed : (c : tie.Then1) → good (recordFault (used (c .before .before .before .args .s)) .refusal) ≡ true
-passed c = number-zero _ _ _ (c .before .before .record-fault .ensures) (c .before .code .ensures) (c .if1 .taken)
+numbers-requires : tie.Need-numbers-requires
+numbers-requires c κs = (c .before .before .before .pre .0, numbers-lent _ (c .before .before .before .pre .1) _)
 
-record-fault-requires : tie.Need-record-fault-requires
-record-fault-requires c κs = search needs
+conflicts-requires : tie.Need-conflicts-requires
+conflicts-requires c κs = (c .before .before .before .before .before .pre .0, conflicts-lent _ (c .before .before .before .before .before .pre .1) _ _)
 
-code-requires : tie.Need-code-requires
-code-requires c κs = search needs
+cast-rows : tie.Need-cast-rows
+cast-rows c = search needs
 
-tables-of-requires : tie.Need-tables-of-requires
-tables-of-requires c κs = passed c
+rows-requires : tie.Need-rows-requires
+unfolding used
+rows-requires c κs =
+    let g = c .before .before .before .before .before .before .before .before in
+    let n = g .before .before in
+    let b = n .before .before .before .before in
+    let a = b .pre .0 in
+    let u = used (b .args .s) in
+    let o = n .numbers .ensures in
+    let s = g .conflicts .ensures in
+    ((count-at (b .args .s) a, rows-pos u a _ _ _ o _ s, small-rows u a _ _ _ o _ s), done-lent _ (b .pre .1) _ _ _ _ _)
 
 returns : tie.Need-returns
-returns c = rw (judged-good _ (passed (c .before))) (c .tables-of .ensures)
-
-returns-2 : tie.Need-returns-2
-returns-2 c =
-    let f = c .before .before in
-    let u = used (f .before .args .s) in
-    rw (judged-bad u (number-other _ (recordFault u) _ (f .record-fault .ensures) (c .before .code .ensures) (c .if1 .left))) tabled-blank
+unfolding used
+returns c =
+    let g = c .before .before .before .before .before .before .before .before .before in
+    let n = g .before .before in
+    let b = n .before .before .before .before in
+    tabled (used (b .args .s)) (b .pre .0) _ _ _ (n .numbers .ensures) _ (g .conflicts .ensures) _ _ _ (c .rows .ensures)
 
 pub tabulate-spec : {M : Type 1} → statement M
 tabulate-spec =
-    tie.close (tie.spec record-fault-requires code-requires tables-of-requires returns returns-2)
+    tie.close (tie.spec numbers-requires conflicts-requires cast-rows rows-requires returns)

@@ -1,6 +1,6 @@
 -- `times`: the product of 16 bits and at most 64 fits 32 bits. Assumes nothing beyond its `requires`.
-use native.Mathlib.Nat.{mul-le-mul, lt-of-le-of-lt}
 use mathlib.Core.Path.{refl}
+use native.Mathlib.Nat.{mul-le-mul, lt-of-le-of-lt}
 use lib.Dec.{lit<}
 use borrow.Author.Needs.{needs}
 use Rattle.shares.proofs.times.Statement.{statement}

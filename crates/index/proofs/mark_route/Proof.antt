@@ -1,0 +1,101 @@
+-- `mark_route`: the column says of each node passed that it is on the route, and of no other so far. Assumes nothing beyond its `requires`.
+use mathlib.Core.Path.{_≡_, sym, ap, _∙_}
+use Prim.Native.Nat.{ℕ, _+_, _-_, _*_, _≤_, _<_}
+use native.Mathlib.Omega.{arith}
+use lib.ListN.{length, getD}
+use Rattle.index.specs.Index.{Placed, Rowed, Column, OtherColumns}
+use Rattle.index.proofs.Places.{place-lt, others-next, column-next, column-at}
+use borrow.Author.Needs.{needs}
+use Rattle.index.proofs.mark_route.Statement.{statement}
+use Rattle.index.proofs.mark_route.Tie as tie
+
+abbrev Inv-loop : tie.InvT-loop
+Inv-loop k rows users₀ f n j₀ users j = (j ≤ n) × (n ≤ 17) × (length (f .route) ≡ 17) × OtherColumns k users₀ users × Column rows users k (f .route) j
+
+abbrev μ-loop : tie.MeasureT-loop
+μ-loop k rows users₀ f n j₀ users j = n - j
+
+cast-n : tie.Need-cast-n Inv-loop μ-loop
+cast-n c = search needs
+
+loop-holds : tie.Need-loop-holds Inv-loop μ-loop
+loop-holds c = search needs
+
+mul-wide : tie.Need-mul-wide Inv-loop μ-loop
+mul-wide c = search needs
+
+element-copy-out-wide : tie.Need-element-copy-out-wide Inv-loop μ-loop
+element-copy-out-wide c = search needs
+
+wide-requires : tie.Need-wide-requires Inv-loop μ-loop
+wide-requires c κs = search needs
+
+mul-wide-2 : tie.Need-mul-wide-2 Inv-loop μ-loop
+mul-wide-2 c = search needs
+
+element-copy-out-wide-2 : tie.Need-element-copy-out-wide-2 Inv-loop μ-loop
+element-copy-out-wide-2 c = search needs
+
+wide-requires-2 : tie.Need-wide-requires-2 Inv-loop μ-loop
+wide-requires-2 c κs = search needs
+
+mul-users : tie.Need-mul-users Inv-loop μ-loop
+mul-users c = search needs
+
+add-users : tie.Need-add-users Inv-loop μ-loop
+add-users c = search needs
+
+element-write-users : tie.Need-element-write-users Inv-loop μ-loop
+element-write-users c =
+    let b = c .before .before .before .before .before .before in
+    omega (arith, place-lt (b .args .rows .now) (c .before .before .before .before .before .loop .users) (b .args .k) (c .before .before .wide .result) (b .pre .0 .1) (b .pre .0 .2) (c .before .before .before .before .before .loop .inv .3 .whole))
+
+add-j : tie.Need-add-j Inv-loop μ-loop
+add-j c = search needs
+
+loop-less : tie.Need-loop-less Inv-loop μ-loop
+loop-less c = search needs
+
+loop-again : tie.Need-loop-again Inv-loop μ-loop
+loop-again c =
+    let w = c .before .before .before .before .before .loop in
+    let b = c .before .before .before .before .before .before in
+    let x = c .before .before .wide .result in
+    let e = c .before .before .wide .ensures .0 in
+    let f = b .args .t1 in
+    let p = b .pre .0 in
+    let o = w .inv .3 in
+    let h = c .before .before .before .before .loop-test .taken in
+    let i : getD (b .args .rows .now) x 0 ≡ c .wide2 .result = sym (c .wide2 .ensures .0) in
+    let q : 0 < getD (b .args .rows .now) x 0 = rw e (p .3 (w .j) h) in
+    let a = others-next (b .args .rows .now) (w .users) (b .args .k) x (p .1) (p .2) (o .whole) _ o in
+    let d = column-next (b .args .rows .now) (w .users) (b .args .k) x (p .1) (p .2) (o .whole) (f .route) (w .j) (omega arith) e q (w .inv .4) in
+    (search needs, search needs, search needs, rw i at a, rw i at d)
+
+returns : tie.Need-returns Inv-loop μ-loop
+returns c =
+    let w = c .before .loop in
+    let b = c .before .before in
+    (w .inv .3, column-at (b .args .rows .now) (w .users) (b .args .k) (b .args .t1 .route) (b .args .t1 .nodes) (w .j) (omega arith) (w .inv .4))
+
+pub mark-route-spec : {M : Type 1} → statement M
+mark-route-spec =
+    tie.close
+    (tie.spec
+    Inv-loop
+    μ-loop
+    cast-n
+    loop-holds
+    mul-wide
+    element-copy-out-wide
+    wide-requires
+    mul-wide-2
+    element-copy-out-wide-2
+    wide-requires-2
+    mul-users
+    add-users
+    element-write-users
+    add-j
+    loop-less
+    loop-again
+    returns)
