@@ -48,6 +48,8 @@ fn one_round<'a>(
     let mut changed = false;
     let mut k: usize = 0;
     while k < n {
+        // Read before the sums, so that a store stands in one arm alone: a store in every turn would hold up the next turn's sums.
+        let old = gone[k];
         let x = equation::value(
             k,
             m,
@@ -60,7 +62,7 @@ fn one_round<'a>(
             gone,
         );
         let next = fall(deadline[k], x);
-        if gone[k] < next {
+        if old < next {
             gone[k] = next;
             changed = true;
             k += 1;

@@ -1,9 +1,8 @@
 -- `one_round`: as far as flow k the list is the definition's, since the value read off the tables is the definition's. Assumes nothing beyond its `requires`.
-use mathlib.Core.Path.{_≡_, sym, ap, _∙_}
-use mathlib.Core.Bool.{true, false}
+use mathlib.Core.Path.{_≡_}
 use Prim.Native.Nat.{ℕ, _-_, _≤_, _<_}
 use native.Mathlib.Omega.{arith}
-use lib.ListN.{length, getD}
+use lib.ListN.{getD}
 use Rattle.shares.specs.Tables.{tablesOf}
 use Rattle.rounds.proofs.Turns.{Underway, underway-start, underway-done, underway-falls, underway-stays}
 use borrow.Author.Needs.{needs}
@@ -20,11 +19,17 @@ abbrev μ-loop : tie.MeasureT-loop
 loop-holds : tie.Need-loop-holds Inv-loop μ-loop
 loop-holds c = (search needs, underway-start _ _ _ _ (c .pre .0 .2) (c .pre .0 .3))
 
+mul-old : tie.Need-mul-old Inv-loop μ-loop
+mul-old c = search needs
+
+element-copy-out-old : tie.Need-element-copy-out-old Inv-loop μ-loop
+element-copy-out-old c = search needs
+
 value-requires : tie.Need-value-requires Inv-loop μ-loop
 value-requires c κs =
-    let b = c .before .before .before in
-    let h = c .before .loop-test .taken in
-    ((omega arith, b .pre .0 .1), b .pre .1 _ (c .before .before .loop .k) h)
+    let b = c .before .before .before .before in
+    let h = c .before .before .loop-test .taken in
+    ((omega arith, b .pre .0 .1), b .pre .1 _ (c .before .before .before .loop .k) h)
 
 mul-fall : tie.Need-mul-fall Inv-loop μ-loop
 mul-fall c = search needs
@@ -34,12 +39,6 @@ element-copy-out-fall c = search needs
 
 fall-requires : tie.Need-fall-requires Inv-loop μ-loop
 fall-requires c κs = search needs
-
-mul-if1 : tie.Need-mul-if1 Inv-loop μ-loop
-mul-if1 c = search needs
-
-element-copy-out-if1 : tie.Need-element-copy-out-if1 Inv-loop μ-loop
-element-copy-out-if1 c = search needs
 
 mul-gone : tie.Need-mul-gone Inv-loop μ-loop
 mul-gone c = search needs
@@ -58,8 +57,8 @@ loop-again c =
     let w = c .before .before .before .before .before .before .before .loop in
     let b = c .before .before .before .before .before .before .before .before in
     let h = c .before .before .before .before .before .before .loop-test .taken in
-    let x = c .before .before .before .before .value in
-    let f = c .before .before .fall .ensures in
+    let x = c .before .before .before .value in
+    let f = c .before .fall .ensures in
     let i : getD (w .gone) (w .k) 0 < getD (b .args .deadline .now) (w .k) 0 - x .result = rw (← f) (c .if1 .taken) in
     (search needs, rw f (underway-falls _ _ _ _ _ (w .k) _ (w .inv .1) h (b .pre .0 .0) (x .result) (x .ensures .0) i))
 
@@ -74,8 +73,8 @@ loop-again-2 c =
     let w = c .before .before .before .before .before .before .before .loop in
     let b = c .before .before .before .before .before .before .before .before in
     let h = c .before .before .before .before .before .before .loop-test .taken in
-    let x = c .before .before .before .before .value in
-    let f = c .before .before .fall .ensures in
+    let x = c .before .before .before .value in
+    let f = c .before .fall .ensures in
     let i : getD (b .args .deadline .now) (w .k) 0 - x .result ≤ getD (w .gone) (w .k) 0 = rw (← f) (c .if1 .left) in
     (search needs, underway-stays _ _ _ _ _ (w .k) _ (w .inv .1) h (b .pre .0 .0) (x .result) (x .ensures .0) i)
 
@@ -92,12 +91,12 @@ one-round-spec =
     Inv-loop
     μ-loop
     loop-holds
+    mul-old
+    element-copy-out-old
     value-requires
     mul-fall
     element-copy-out-fall
     fall-requires
-    mul-if1
-    element-copy-out-if1
     mul-gone
     element-write-gone
     add-k
