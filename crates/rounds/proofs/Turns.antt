@@ -116,8 +116,9 @@ module _ (t : Tables) (n m : ℕ) (g h : List ℕ) (k : ℕ) (b : Bool) (o : Und
       let f = list-entry (λ z. getD d z 0 - getD h z 0) n k l in
       ap (λ (z : ℕ). set u k z) (q ∙ ap₂ (λ (z w : ℕ). min z w) (sym f) (e ∙ a)) ∙ ap (λ (w : List ℕ). lowered s w k) (o .list s j) ∙ rw add-one
 
-  pub underway-stays : getD d k 0 - x ≤ getD h k 0 → Underway t n m g h (k + 1) b
+  pub underway-stays : getD d k 0 - x ≤ getD g k 0 → Underway t n m g h (k + 1) b
   underway-stays i =
+      let z = o .later k (le-refl k) in
       let f = list-entry (λ z. getD d z 0 - getD h z 0) n k l in
       let w = list-length (λ z. getD d z 0 - getD h z 0) n in
       record {
@@ -128,7 +129,7 @@ module _ (t : Tables) (n m : ℕ) (g h : List ℕ) (k : ℕ) (b : Bool) (o : Und
         list = λ s j. sym (set-own u k (getD d k 0 - getD h k 0) (omega arith) (sym f)) ∙ step s j (getD d k 0 - getD h k 0) (omega arith);
       }
 
-  pub underway-falls : getD h k 0 < getD d k 0 - x → Underway t n m g (set h k (getD d k 0 - x)) (k + 1) true
+  pub underway-falls : getD g k 0 < getD d k 0 - x → Underway t n m g (set h k (getD d k 0 - x)) (k + 1) true
   underway-falls i =
       let w = o .whole in
       let y = getD d k 0 - x in
@@ -214,8 +215,5 @@ values-next f k t x h o e l =
     }
 
 -- nothing is gone where the rounds begin
-pub lent-whole : (g : List ℕ) → g ≡ replicate mostFlows 0 → length g ≡ mostFlows
-lent-whole g e = rw e (length-replicate {A = ℕ} mostFlows 0)
-
-pub lent-below : (d g : List ℕ) (n : ℕ) → g ≡ replicate mostFlows 0 → Below d g n
-lent-below d g n e l h = rw e (le-trans (le-of-eq (zeros mostFlows l)) zero-le)
+pub none-gone : (d : List ℕ) (n : ℕ) → Below d (replicate mostFlows 0) n
+none-gone d n l h = le-trans (le-of-eq (zeros mostFlows l)) zero-le

@@ -2,7 +2,6 @@
 ghost use mathlib.Core.Path.{_≡_};
 ghost use mathlib.Core.Bool.{true};
 ghost use Prim.Native.Nat.{_-_, _≤_, _<_};
-ghost use lib.ListN.{length, replicate};
 ghost use Rattle.model.specs.Refusals.{good, noFault};
 ghost use Rattle.model.specs.Reader.{recordFault};
 ghost use Rattle.model.specs.Sets.{used};
@@ -27,8 +26,14 @@ fn fall(deadline: u16, value: u32) -> u16
     deadline - (value as u16)
 }
 
-// A round: the flows in order, each entry replaced by the smaller of itself and the equation's value, new entries used at once. Kept is
-// how far each entry is below D, and only what changes is written. Answers whether something did.
+// What a round leaves of a list, and whether that is another list than before.
+struct Round {
+    gone: [u16; Flow::MOST],
+    changed: bool,
+}
+
+// A round: the flows in order, each entry replaced by the smaller of itself and the equation's value, new entries used at once. A list
+// is kept as what is gone of D, entry by entry.
 fn one_round<'a>(
     n: usize,
     m: u32,
@@ -38,16 +43,19 @@ fn one_round<'a>(
     deadline: &'a [u16; Flow::MOST],
     whole_conflict: &'a [u32; Flow::MOST],
     whole_work: &'a [u32; Flow::MOST],
-    gone: &mut [u16; Flow::MOST],
-) -> bool
-    requires { ⌜ (n ≤ 64) × (0 < m) × (length (now gone) ≡ 64) × Below (now deadline) (now gone) n ⌝ }
+    list: [u16; Flow::MOST],
+) -> Round
+    requires { ⌜ (n ≤ 64) × (0 < m) × Below (now deadline) list n ⌝ }
     requires { ⌜ Fits (tablesOf (now conflict) (now remainder) (now work) (now deadline) (now «whole_conflict») (now «whole_work»)) n ⌝ }
-    ensures { λ r. ⌜ RoundFor (tablesOf (now (conflict .entry)) (now (remainder .entry)) (now (work .entry)) (now (deadline .entry)) (now («whole_conflict» .entry)) (now («whole_work» .entry))) n m (now (gone .entry)) (now (gone .exit)) r ⌝ }
-    ensures { λ r. ⌜ (length (now (gone .exit)) ≡ 64) × Below (now (deadline .entry)) (now (gone .exit)) n ⌝ }
+    ensures { λ r. ⌜ RoundFor (tablesOf (now (conflict .entry)) (now (remainder .entry)) (now (work .entry)) (now (deadline .entry)) (now («whole_conflict» .entry)) (now («whole_work» .entry))) n m list (r .gone) (r .changed) ⌝ }
+    ensures { λ r. ⌜ Below (now (deadline .entry)) (r .gone) n ⌝ }
 {
+    let mut gone = list;
     let mut changed = false;
     let mut k: usize = 0;
     while k < n {
+        // Written only where it changes: a store in every turn would hold up the next turn's sums.
+        let old = list[k];
         let x = equation::value(
             k,
             m,
@@ -57,10 +65,10 @@ fn one_round<'a>(
             deadline,
             whole_conflict,
             whole_work,
-            gone,
+            &gone,
         );
         let next = fall(deadline[k], x);
-        if gone[k] < next {
+        if old < next {
             gone[k] = next;
             changed = true;
             k += 1;
@@ -68,7 +76,13 @@ fn one_round<'a>(
             k += 1;
         }
     }
-    changed
+    Round { gone, changed }
+}
+
+// What the rounds reach, and their number.
+struct Reach {
+    gone: [u16; Flow::MOST],
+    rounds: u32,
 }
 
 // The rounds, from v = D to the first that changes nothing, which counts.
@@ -80,18 +94,18 @@ fn rounds<'a>(
     deadline: &'a [u16; Flow::MOST],
     whole_conflict: &'a [u32; Flow::MOST],
     whole_work: &'a [u32; Flow::MOST],
-    gone: &mut [u16; Flow::MOST],
-) -> u32
-    requires { ⌜ Accepted (used s) × (now gone ≡ replicate 64 0) ⌝ }
+) -> Reach
+    requires { ⌜ Accepted (used s) ⌝ }
     requires { ⌜ Tabled (used s) (tablesOf (now conflict) (now remainder) (now work) (now deadline) (now «whole_conflict») (now «whole_work»)) ⌝ }
-    ensures { λ r. ⌜ (r ≡ reached (used s) .rounds) × (leftOf (now (deadline .entry)) (now (gone .exit)) (s .count) ≡ reached (used s) .list) ⌝ }
-    ensures { λ r. ⌜ Below (now (deadline .entry)) (now (gone .exit)) (s .count) ⌝ }
+    ensures { λ r. ⌜ (r .rounds ≡ reached (used s) .rounds) × (leftOf (now (deadline .entry)) (r .gone) (s .count) ≡ reached (used s) .list) ⌝ }
+    ensures { λ r. ⌜ Below (now (deadline .entry)) (r .gone) (s .count) ⌝ }
 {
     let m = s.map.ways();
+    let mut gone = [0u16; Flow::MOST];
     let mut count: u32 = 0;
     let mut going = true;
     while going {
-        going = one_round(
+        let r = one_round(
             s.count as usize,
             m,
             conflict,
@@ -102,9 +116,15 @@ fn rounds<'a>(
             whole_work,
             gone,
         );
+        going = r.changed;
+        let list = r.gone;
+        gone = list;
         count += 1;
     }
-    count
+    Reach {
+        gone,
+        rounds: count,
+    }
 }
 
 // The equation's value for every flow.
@@ -165,7 +185,7 @@ fn judge_by<'a>(
 {
     let n = s.count as usize;
     let m = s.map.ways();
-    let mut gone = [0u16; Flow::MOST];
+    let none = [0u16; Flow::MOST];
     let basic = values(
         n,
         m,
@@ -175,9 +195,9 @@ fn judge_by<'a>(
         deadline,
         whole_conflict,
         whole_work,
-        &gone,
+        &none,
     );
-    let count = rounds(
+    let end = rounds(
         s,
         conflict,
         remainder,
@@ -185,8 +205,8 @@ fn judge_by<'a>(
         deadline,
         whole_conflict,
         whole_work,
-        &mut gone,
     );
+    let gone = end.gone;
     let tightened = values(
         n,
         m,
@@ -201,7 +221,7 @@ fn judge_by<'a>(
     Judged {
         basic,
         tightened,
-        rounds: count,
+        rounds: end.rounds,
     }
 }
 

@@ -40,7 +40,7 @@ values-requires c κs = asked (c .before)
 
 rounds-requires : tie.Need-rounds-requires
 unfolding used
-rounds-requires c κs = ((start (c .before .before .before) .pre .0, refl), start (c .before .before .before) .pre .1)
+rounds-requires c κs = (start (c .before .before) .pre .0, start (c .before .before) .pre .1)
 
 values-requires-2 : tie.Need-values-requires-2
 unfolding used
@@ -56,7 +56,7 @@ returns c =
     let n = b .pre .0 .count-le in
     let o = b .pre .1 in
     let e = w .ways .ensures in
-    let r = c .before .before .rounds .ensures in
+    let r = c .before .before .before .rounds .ensures in
     record {
       basics = values-ext _ _ _ _ (basic-carried u n t o _ e) (c .before .before .before .before .values .ensures);
       tights = values-ext _ _ _ _ (tight-carried u n t o _ e _ (r .1) (r .0 .1)) (c .values2 .ensures);

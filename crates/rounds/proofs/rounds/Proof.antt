@@ -4,35 +4,34 @@ use mathlib.Core.Bool.{true, false}
 use mathlib.Core.List.{List}
 use Prim.Native.Nat.{ℕ, _+_, _-_, _≤_, _<_}
 use native.Mathlib.Omega.{arith}
-use lib.ListN.{length}
 use Rattle.model.specs.Sets.{used}
-use Rattle.model.specs.Delay.{mostRounds, deadlines}
+use Rattle.model.specs.Delay.{mostRounds}
 use Rattle.greatest.specs.Rounds.{accepted-fits}
 use Rattle.equation.proofs.Carry.{fits-carried}
 use Rattle.rounds.specs.Steps.{leftOf, Below, Judges, Going}
-use Rattle.rounds.proofs.Turns.{going-start, going-next, most-small, deadlines-carried, lent-whole, lent-below}
+use Rattle.rounds.proofs.Turns.{going-start, going-next, most-small, deadlines-carried, none-gone}
 use Rattle.rounds.proofs.Results.{ones-pos}
 use borrow.Author.Needs.{needs}
 use Rattle.rounds.proofs.rounds.Statement.{statement}
 use Rattle.rounds.proofs.rounds.Tie as tie
 
 abbrev Inv-loop : tie.InvT-loop
-Inv-loop s conflict remainder work deadline whole-conflict whole-work gone₀ m count₀ going₀ gone count going = (length gone ≡ 64) × Below deadline gone (s .count) × Going (used s) going count (leftOf deadline gone (s .count))
+Inv-loop s conflict remainder work deadline whole-conflict whole-work m gone₀ count₀ going₀ gone count going = Below deadline gone (s .count) × Going (used s) going count (leftOf deadline gone (s .count))
 
 abbrev μ-loop : tie.MeasureT-loop
-μ-loop s conflict remainder work deadline whole-conflict whole-work gone₀ m count₀ going₀ gone count going = mostRounds (used s) - count
+μ-loop s conflict remainder work deadline whole-conflict whole-work m gone₀ count₀ going₀ gone count going = mostRounds (used s) - count
 
 -- where the function began, and where the turn did
 abbrev start : (c : tie.At-loop Inv-loop μ-loop) → tie.Start Inv-loop μ-loop
 start c = c .before .before
 
-abbrev turn : (c : tie.After-one-round Inv-loop μ-loop) → tie.In-loop Inv-loop μ-loop
+abbrev turn : (c : tie.After-list Inv-loop μ-loop) → tie.In-loop Inv-loop μ-loop
 turn c = c .before .before .before
 
 -- in a turn the rounds go on
 still : (c : tie.In-loop Inv-loop μ-loop)
     → Going (used (start (c .before) .args .s)) true (c .before .loop .count) (leftOf (start (c .before) .args .deadline .now) (c .before .loop .gone) (start (c .before) .args .s .count))
-still c = rw (c .loop-test .taken) at (c .before .loop .inv .2)
+still c = rw (c .loop-test .taken) at (c .before .loop .inv .1)
 
 ways-requires : tie.Need-ways-requires Inv-loop μ-loop
 ways-requires c κs = search needs
@@ -42,11 +41,7 @@ unfolding used
 loop-holds c =
     let b = c .before in
     let u = used (b .args .s) in
-    let e = b .pre .0 .1 in
-    let d = b .args .deadline .now in
-    let l : leftOf d (b .args .gone .now) (b .args .s .count) ≡ deadlines u =
-    ap (λ (g : List ℕ). leftOf d g (b .args .s .count)) e ∙ deadlines-carried u d (b .pre .1 .deadlines) in
-    (lent-whole _ e, lent-below d _ _ e, rw l (going-start u))
+    (none-gone (b .args .deadline .now) (b .args .s .count), rw (deadlines-carried u (b .args .deadline .now) (b .pre .1 .deadlines)) (going-start u))
 
 cast-one-round : tie.Need-cast-one-round Inv-loop μ-loop
 cast-one-round c = search needs
@@ -54,18 +49,18 @@ cast-one-round c = search needs
 one-round-requires : tie.Need-one-round-requires Inv-loop μ-loop
 unfolding used
 one-round-requires c κs =
-    let w = c .before .before .before .loop in
-    let b = start (c .before .before .before) in
-    let a = b .pre .0 .0 in
-    let m : 0 < c .before .before .before .before .ways .result = omega (arith, ones-pos (b .args .s .map .0) (a .some-channel)) in
-    ((a .count-le, m, w .inv .0, w .inv .1), fits-carried (used (b .args .s)) (a .count-le) _ (b .pre .1))
+    let w = c .before .before in
+    let b = start w in
+    let a = b .pre .0 in
+    let m : 0 < w .before .ways .result = omega (arith, ones-pos (b .args .s .map .0) (a .some-channel)) in
+    ((a .count-le, m, w .loop .inv .0), fits-carried (used (b .args .s)) (a .count-le) _ (b .pre .1))
 
 add-count : tie.Need-add-count Inv-loop μ-loop
 unfolding used
 add-count c =
     let i = turn c in
     let b = start (i .before) in
-    omega (arith, still i .1, most-small (used (b .args .s)) (b .pre .0 .0 .count-le) (b .pre .1 .deadlines-le))
+    omega (arith, still i .1, most-small (used (b .args .s)) (b .pre .0 .count-le) (b .pre .1 .deadlines-le))
 
 loop-less : tie.Need-loop-less Inv-loop μ-loop
 unfolding used
@@ -76,18 +71,18 @@ unfolding used
 loop-again c =
     let i = turn c in
     let b = start (i .before) in
-    let a = b .pre .0 .0 in
+    let a = b .pre .0 in
     let u = used (b .args .s) in
-    let r = c .one-round .ensures in
-    (r .1 .0, r .1 .1, going-next u (accepted-fits u a) (i .before .loop .count) _ _ _ (still i) (r .0 u record { tables = b .pre .1; count = refl; channels = sym (i .before .before .ways .ensures); most = a .count-le }))
+    let r = c .before .one-round .ensures in
+    (r .1, going-next u (accepted-fits u a) (i .before .loop .count) _ _ _ (still i) (r .0 u record { tables = b .pre .1; count = refl; channels = sym (i .before .before .ways .ensures); most = a .count-le }))
 
 returns : tie.Need-returns Inv-loop μ-loop
 unfolding used
 returns c =
     let b = c .before in
     let s = start b .args in
-    let g : Going (used (s .s)) false (b .loop .count) (leftOf (s .deadline .now) (b .loop .gone) (s .s .count)) = rw (c .loop-test .left) at (b .loop .inv .2) in
-    ((sym (g .2), sym (g .1)), b .loop .inv .1)
+    let g : Going (used (s .s)) false (b .loop .count) (leftOf (s .deadline .now) (b .loop .gone) (s .s .count)) = rw (c .loop-test .left) at (b .loop .inv .1) in
+    ((sym (g .2), sym (g .1)), b .loop .inv .0)
 
 pub rounds-spec : {M : Type 1} → statement M
 rounds-spec =
