@@ -16,7 +16,7 @@ use report::is_dropped;
 
 // One where it is so.
 fn one_if(so: bool) -> u32
-    ensures { λ r. ⌜ r ≡ bit so ⌝ }
+    ensures { λ r. ⌜ (r ≡ bit so) × (r ≤ 1) ⌝ }
 {
     if so { 1 } else { 0 }
 }

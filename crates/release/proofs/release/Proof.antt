@@ -32,7 +32,7 @@ element-copy-out-after : tie.Need-element-copy-out-after Inv-loop μ-loop
 element-copy-out-after c = search needs
 
 add-after : tie.Need-add-after Inv-loop μ-loop
-add-after c = omega (arith, c .before .before .before .before .before .pre .0 .1, c .before .before .before .before .before .pre .1 (c .before .before .before .before .loop .k) .0)
+add-after c = let h = c .before .before .before .before .before .pre .1 (c .before .before .before .before .loop .k) in omega (arith, c .before .before .before .before .before .pre .0 .1, h .0, h .1)
 
 mul-due : tie.Need-mul-due Inv-loop μ-loop
 mul-due c = search needs
@@ -41,7 +41,7 @@ element-copy-out-due : tie.Need-element-copy-out-due Inv-loop μ-loop
 element-copy-out-due c = search needs
 
 add-due : tie.Need-add-due Inv-loop μ-loop
-add-due c = omega (arith, c .before .before .before .before .before .before .pre .0 .1, c .before .before .before .before .before .before .pre .1 (c .before .before .before .before .before .loop .k) .1)
+add-due c = let h = c .before .before .before .before .before .before .pre .1 (c .before .before .before .before .before .loop .k) in omega (arith, c .before .before .before .before .before .before .pre .0 .1, h .0, h .1)
 
 mul-due-2 : tie.Need-mul-due-2 Inv-loop μ-loop
 mul-due-2 c = search needs

@@ -32,10 +32,6 @@ loop-holds c = (search needs, through-none _ _, refl, refl)
 more : (p : ℕ → Bool) (k : ℕ) → length (filterTo p (k + 1)) ≡ length (filterTo p k) + bit (p k)
 more p k = length-filterTo p (k + 1) ∙ sum-next (λ j. bit (p j)) k ∙ ap (λ (x : ℕ). x + bit (p k)) (sym (length-filterTo p k))
 
-bit-le : (b : Bool) → bit b ≤ 1
-bit-le true = le-refl 1
-bit-le false = omega arith
-
 -- a count and its mark are small
 small : (c : tie.In-loop Inv-loop μ-loop) → (getD (c .before .loop .sent) (c .before .loop .k) 0 ≤ 64) × (getD (c .before .before .args .marked .now) (c .before .loop .k) 0 ≤ 1)
 small c =
@@ -83,7 +79,7 @@ add-delivered : tie.Need-add-delivered Inv-loop μ-loop
 add-delivered c =
     let v = c .before .before .before .before .before .before .before .before .before .before .loop in
     let a = c .before .before .before .before .before .before .before .before .before .before .before .args in
-    omega (arith, c .one-if .ensures, bit-le (c .before .before .before .before .before .is-delivered .result), v .inv .2, filter-le (deliveredBy (a .sent .now) (a .work .now) (a .marked .now)) (v .k), c .before .before .before .before .before .before .before .before .before .loop-test .taken, c .before .before .before .before .before .before .before .before .before .before .before .pre .0 .0)
+    omega (arith, c .one-if .ensures .1, v .inv .2, filter-le (deliveredBy (a .sent .now) (a .work .now) (a .marked .now)) (v .k), c .before .before .before .before .before .before .before .before .before .loop-test .taken, c .before .before .before .before .before .before .before .before .before .before .before .pre .0 .0)
 
 one-if-requires-2 : tie.Need-one-if-requires-2 Inv-loop μ-loop
 one-if-requires-2 c κs = search needs
@@ -92,7 +88,7 @@ add-dropped : tie.Need-add-dropped Inv-loop μ-loop
 add-dropped c =
     let v = c .before .before .before .before .before .before .before .before .before .before .before .loop in
     let a = c .before .before .before .before .before .before .before .before .before .before .before .before .args in
-    omega (arith, c .one-if2 .ensures, bit-le (c .before .before .is-dropped .result), v .inv .3, filter-le (droppedBy (a .t) (a .start .now) (a .due .now) (a .sent .now) (a .work .now) (a .marked .now)) (v .k), c .before .before .before .before .before .before .before .before .before .before .loop-test .taken, c .before .before .before .before .before .before .before .before .before .before .before .before .pre .0 .0)
+    omega (arith, c .one-if2 .ensures .1, v .inv .3, filter-le (droppedBy (a .t) (a .start .now) (a .due .now) (a .sent .now) (a .work .now) (a .marked .now)) (v .k), c .before .before .before .before .before .before .before .before .before .before .loop-test .taken, c .before .before .before .before .before .before .before .before .before .before .before .before .pre .0 .0)
 
 element-write-sent : tie.Need-element-write-sent Inv-loop μ-loop
 element-write-sent c = search needs
@@ -114,10 +110,10 @@ loop-again c =
       omega (arith, l),
       through-next _ k _ _ _ (omega (arith, l, c .before .before .before .before .before .before .before .before .before .before .before .before .pre .0)) (ap (λ (x : ℕ). x + m) u) (v .inv .1),
       ap₂ (λ (x y : ℕ). x + y) (v .inv .2)
-          (c .before .one-if .ensures ∙ ap bit (c .before .before .before .before .before .before .is-delivered .ensures ∙ ap (λ (n : ℕ). eqb m 1 && eqb (n + 1) (getD (a .work .now) k 0)) u))
+          (c .before .one-if .ensures .0 ∙ ap bit (c .before .before .before .before .before .before .is-delivered .ensures ∙ ap (λ (n : ℕ). eqb m 1 && eqb (n + 1) (getD (a .work .now) k 0)) u))
           ∙ sym (more (deliveredBy (a .sent .now) (a .work .now) (a .marked .now)) k),
       ap₂ (λ (x y : ℕ). x + y) (v .inv .3)
-          (c .one-if2 .ensures ∙ ap bit (c .before .before .is-dropped .ensures
+          (c .one-if2 .ensures .0 ∙ ap bit (c .before .before .is-dropped .ensures
           ∙ ap (λ (n : ℕ). leb (getD (a .start .now) k 0) (a .t) && eqb (a .t + 1) (getD (a .due .now) k 0) && ltb (n + m) (getD (a .work .now) k 0)) u))
           ∙ sym (more (droppedBy (a .t) (a .start .now) (a .due .now) (a .sent .now) (a .work .now) (a .marked .now)) k),
     )
