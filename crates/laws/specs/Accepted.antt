@@ -1,11 +1,13 @@
 -- What a set has that the record check finds no fault in. Each rule is a test that failed, and the first fault is the only one that counts.
 use mathlib.Core.Path.{_≡_, refl, sym, _∙_}
 use mathlib.Core.Bool.{Bool, true, false, _||_, cond, false≢true}
-use Prim.Native.Nat.{ℕ, zero, suc, _+_, _-_, _*_, _≤_, _<_, zero-le}
+use Prim.Native.Nat.{ℕ, zero, suc, _+_, _-_, _*_, _/_, _≤_, _<_, zero-le}
 use native.Mathlib.Nat.{add-assoc, add-zero, add-comm}
 use native.Mathlib.Decide.{decLe}
 use native.Mathlib.Omega.{arith}
 use borrow.Author.Tests.{ltb-false, leb-false, eqb-false}
+use lib.Arith.{bin-ind}
+use lib.Count.{ones, ones-step}
 use lib.Dec.{leb, ltb, eqb}
 use Rattle.model.specs.declared.kinds.Flow.{Flow}
 use Rattle.model.specs.declared.kinds.FlowSet.{FlowSet}
@@ -113,3 +115,11 @@ accepted s h =
     most : (n : ℕ) → ((k : ℕ) → k < n → k < mostFlows) → n ≤ mostFlows
     most zero f = zero-le
     most (suc n) f = f n (omega arith)
+
+-- a number other than 0 has a bit that is one
+pub ones-pos : (n : ℕ) → 0 < n → 0 < ones n
+ones-pos n = bin-ind (λ (n : ℕ). 0 < n → 0 < ones n) (λ h. absurd (omega arith)) (λ n ih h. go n ih h (decLe 1 (n / 2))) n
+  where
+    go : (n : ℕ) → (0 < n / 2 → 0 < ones (n / 2)) → 0 < n → Dec (1 ≤ n / 2) → 0 < ones n
+    go n ih h (yes l) = omega (arith, ones-step n, ih l)
+    go n ih h (no l) = omega (arith, ones-step n)

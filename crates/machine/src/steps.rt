@@ -11,6 +11,7 @@ ghost use Rattle.model.specs.Sums.{anyTo};
 ghost use Rattle.model.specs.Sets.{used};
 ghost use Rattle.model.specs.Machine.{stepped, stepIf, stepOf};
 ghost use Rattle.machinery.specs.States.{GoodState};
+ghost use Rattle.machinery.specs.Links.{Routes};
 ghost use Rattle.machinery.specs.Slots.{Prepared};
 use model::ChannelMap;
 use model::Delivery;
@@ -81,8 +82,10 @@ fn slot_answer(
     period: &[u32; Flow::MOST],
     deadline: &[u32; Flow::MOST],
     work: &[u8; Flow::MOST],
+    tries: &[u16; Flow::MOST],
+    routes: &[[u16; Flow::MOST_NODES]; Flow::MOST],
 ) -> Stepped
-    requires { ⌜ Prepared s (now start) (now period) (now deadline) (now work) × GoodState (used s) st × (st .slot .0 < 4000000000) ⌝ }
+    requires { ⌜ Prepared s (now start) (now period) (now deadline) (now work) × Routes s (now tries) (now routes) × GoodState (used s) st × (st .slot .0 < 4000000000) ⌝ }
     ensures { λ r. ⌜ r ≡ stepIf (used s) st true ⌝ }
 {
     let count = s.count as usize;
@@ -101,7 +104,19 @@ fn slot_answer(
         &mut due,
         &mut order,
     );
-    slot::slot_of(s, st, start, deadline, work, &due, &order, lined, &mut sent)
+    slot::slot_of(
+        s,
+        st,
+        start,
+        deadline,
+        work,
+        tries,
+        routes,
+        &due,
+        &order,
+        lined,
+        &mut sent,
+    )
 }
 
 // The step of an accepted set: 12, then 11, then the slot.
@@ -130,7 +145,10 @@ fn step_accepted(s: FlowSet, st: State) -> Stepped
         };
         return refused(fault, st);
     }
-    slot_answer(s, st, &start, &period, &deadline, &work)
+    let mut tries = [0u16; Flow::MOST];
+    let mut routes = [[0u16; Flow::MOST_NODES]; Flow::MOST];
+    table::routes(s, &mut tries, &mut routes);
+    slot_answer(s, st, &start, &period, &deadline, &work, &tries, &routes)
 }
 
 // One step: what is sent, delivered and dropped in the state's slot, and the next state. Refusals in the order of document 01: the

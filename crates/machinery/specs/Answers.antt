@@ -25,39 +25,51 @@ use Rattle.model.specs.Machine.{releaseAt, deadlineAt, had, ready, linkOf, tryO
 use Rattle.laws.specs.Sums.{and-l, and-r}
 use Rattle.machinery.specs.Lists.{Through, length-listTo, is-listTo, filled-put, filter-hit}
 use Rattle.machinery.specs.Dues.{Tables, Seen, next-is, ready-if}
-use Rattle.machinery.specs.Choice.{Choice, placed-ready, ordered-in}
+use Rattle.machinery.specs.Order.{Each}
+use Rattle.machinery.specs.Choice.{Choice, placed-ready}
 
 -- the transmission of flow k with n had, at this offset
-abbrev pub sendIn : ℕ → Flow → ℕ → ℕ → Slot → ℕ → Send
-sendIn m f k n t o =
+abbrev pub sendIn : ℕ → Slot → List ℕ → List (List ℕ) → ℕ → ℕ → ℕ → Send
+sendIn m t tries routes k n o =
     record {
       slot = t;
       flow = k;
-      from = getD (linkOf f n) 0 0;
-      to = getD (linkOf f n) 1 0;
-      attempt = tryOf f n;
+      from = getD (getD routes k []) (n / getD tries k 0) 0;
+      to = getD (getD routes k []) (n / getD tries k 0 + 1) 0;
+      attempt = n % getD tries k 0;
       offset = o;
       channel = radioChannel m (t .0) o;
     }
 
-unfoldable pub sendsBy : FlowSet → Slot → List ℕ → ℕ → List ℕ → List Send
-sendsBy s t sent o [] = []
-sendsBy s t sent o (k ∷ ks) = sendIn (s .map .0) (flowAt s k) k (getD sent k 0) t o ∷ sendsBy s t sent (o + 1) ks
+-- the placed flows' transmissions, each at the next offset
+unfoldable pub sendsOf : (ℕ → ℕ → Send) → ℕ → List ℕ → List Send
+sendsOf send o [] = []
+sendsOf send o (k ∷ ks) = send k o ∷ sendsOf send (o + 1) ks
 
--- one placed flow more sends at the next offset
-pub sends-more : (s : FlowSet) (t : Slot) (sent : List ℕ) (o : ℕ) (ks : List ℕ) (k : ℕ)
-    → sendsBy s t sent o (ks ++ (k ∷ [])) ≡ sendsBy s t sent o ks ++ (sendIn (s .map .0) (flowAt s k) k (getD sent k 0) t (o + length ks) ∷ [])
-unfolding sendsBy
-sends-more s t sent o [] k = rw add-zero
-sends-more s t sent o (x ∷ ks) k =
+pub sends-more : (send : ℕ → ℕ → Send) (o : ℕ) (ks : List ℕ) (k : ℕ) → sendsOf send o (ks ++ (k ∷ [])) ≡ sendsOf send o ks ++ (send k (o + length ks) ∷ [])
+unfolding sendsOf
+sends-more send o [] k = rw add-zero
+sends-more send o (x ∷ ks) k =
     let e : o + 1 + length ks ≡ o + suc (length ks) = omega arith in
-    ap (λ r. sendIn (s .map .0) (flowAt s x) x (getD sent x 0) t o ∷ r)
-    (sends-more s t sent (o + 1) ks k ∙ ap (λ (z : ℕ). sendsBy s t sent (o + 1) ks ++ (sendIn (s .map .0) (flowAt s k) k (getD sent k 0) t z ∷ [])) e)
+    ap (λ r. send x o ∷ r) (sends-more send (o + 1) ks k ∙ ap (λ (z : ℕ). sendsOf send (o + 1) ks ++ (send k z ∷ [])) e)
 
-pub length-sends : (s : FlowSet) (t : Slot) (sent : List ℕ) (o : ℕ) (ks : List ℕ) → length (sendsBy s t sent o ks) ≡ length ks
-unfolding sendsBy
-length-sends s t sent o [] = refl
-length-sends s t sent o (k ∷ ks) = ap suc (length-sends s t sent (o + 1) ks)
+pub length-sends : (send : ℕ → ℕ → Send) (o : ℕ) (ks : List ℕ) → length (sendsOf send o ks) ≡ length ks
+unfolding sendsOf
+length-sends send o [] = refl
+length-sends send o (k ∷ ks) = ap suc (length-sends send (o + 1) ks)
+
+-- which are the machine's, if each is
+pub sends-by : (P : ℕ → Type 0) (s : FlowSet) (st : State) (send : ℕ → ℕ → Send) → ((k o : ℕ) → P k → send k o ≡ sendOf s st k o)
+    → (o : ℕ) (ks : List ℕ) → Each P ks → sendsOf send o ks ≡ sendsFrom s st o ks
+unfolding sendsOf sendsFrom
+sends-by P s st send h o [] e = refl
+sends-by P s st send h o (k ∷ ks) e =
+    ap₂ (λ (x : Send) (r : List Send). x ∷ r) (h k o (e .0)) (sends-by P s st send h (o + 1) ks (e .1))
+
+pub length-from : (s : FlowSet) (st : State) (o : ℕ) (ks : List ℕ) → length (sendsFrom s st o ks) ≡ length ks
+unfolding sendsFrom
+length-from s st o [] = refl
+length-from s st o (k ∷ ks) = ap suc (length-from s st (o + 1) ks)
 
 -- delivered and dropped, by arrays
 abbrev pub deliveredBy : List ℕ → List ℕ → List ℕ → ℕ → Bool
@@ -95,12 +107,6 @@ unfolding countAfter
 count-after s st k = next-is (flowAt s k) (st .slot .0) (countAt st k) (memb k (placedAt s st)) (λ e. placed-ready s st k e .1)
 
 module _ (s : FlowSet) (st : State) (start deadline work due sent : List ℕ) (t : Tables s start deadline work) (v : Seen s st due sent) where
-  pub sends-by : (o : ℕ) (ks : List ℕ) → sendsBy s (st .slot) sent o ks ≡ sendsFrom s st o ks
-  unfolding sendsBy sendsFrom sendOf
-  sends-by o [] = refl
-  sends-by o (k ∷ ks) =
-      ap₂ (λ (x : Send) (r : List Send). x ∷ r) (ap (λ (n : ℕ). sendIn (s .map .0) (flowAt s k) k n (st .slot) o) (v .hads k)) (sends-by (o + 1) ks)
-
   pub deliveries-by : (ks : List ℕ) → deliveriesBy (st .slot .0) deadline due ks ≡ deliveriesOf s st ks
   unfolding deliveriesBy deliveriesOf
   deliveries-by [] = refl
@@ -146,16 +152,15 @@ pub record Delayed (t due d : ℕ) : Type 0 where
   pub slot-le : t ≤ 4000000000
 
 -- the next send of an array
-pub sends-put : (s : FlowSet) (t : Slot) (sent chosen : List ℕ) (i : ℕ) (array : List Send) (x : Send) → i < 16 → i < length chosen
-    → array ≡ filled 16 noSend (sendsBy s t sent 0 (take i chosen))
-    → x ≡ sendIn (s .map .0) (flowAt s (getD chosen i 0)) (getD chosen i 0) (getD sent (getD chosen i 0) 0) t i
-    → set array i x ≡ filled 16 noSend (sendsBy s t sent 0 (take (i + 1) chosen))
-sends-put s t sent chosen i array x h k e f =
-    let l : length (sendsBy s t sent 0 (take i chosen)) ≡ i = length-sends s t sent 0 (take i chosen) ∙ length-take-le i chosen (omega arith) in
+pub sends-put : (send : ℕ → ℕ → Send) (chosen : List ℕ) (i : ℕ) (array : List Send) (x : Send) → i < 16 → i < length chosen
+    → array ≡ filled 16 noSend (sendsOf send 0 (take i chosen)) → x ≡ send (getD chosen i 0) i
+    → set array i x ≡ filled 16 noSend (sendsOf send 0 (take (i + 1) chosen))
+sends-put send chosen i array x h k e f =
+    let l : length (sendsOf send 0 (take i chosen)) ≡ i = length-sends send 0 (take i chosen) ∙ length-take-le i chosen (omega arith) in
     let o : 0 + length (take i chosen) ≡ i = omega (arith, length-take-le i chosen (omega arith)) in
-    let w : sendsBy s t sent 0 (take (i + 1) chosen) ≡ sendsBy s t sent 0 (take i chosen) ++ (x ∷ []) =
-    rw (add-one, take-suc chosen i 0 k, sends-more s t sent 0 (take i chosen) (getD chosen i 0), o, f) in
-    rw w (filled-put 16 noSend (sendsBy s t sent 0 (take i chosen)) array i x e (sym l) (rw l h))
+    let w : sendsOf send 0 (take (i + 1) chosen) ≡ sendsOf send 0 (take i chosen) ++ (x ∷ []) =
+    rw (add-one, take-suc chosen i 0 k, sends-more send 0 (take i chosen) (getD chosen i 0), o, f) in
+    rw w (filled-put 16 noSend (sendsOf send 0 (take i chosen)) array i x e (sym l) (rw l h))
 
 -- the next delivery of an array
 pub deliveries-put : (p : ℕ → Bool) (t : ℕ) (deadline due : List ℕ) (k n : ℕ) (array : List Delivery) (x : Delivery) → p k ≡ true → length (filterTo p k) < 16

@@ -120,6 +120,11 @@ aheadBy due k l = ltb (getD due k 0) (getD due l 0) || (eqb (getD due k 0) (getD
 abbrev pub readyBy : List ℕ → List ℕ → List ℕ → List ℕ → ℕ → ℕ → Bool
 readyBy start due sent work t k = readyIn (getD start k 0) (getD due k 0) (getD sent k 0) (getD work k 0) t
 
+-- a ready packet is short of C
+pub ready-work : (start due sent work : List ℕ) (t k : ℕ) → readyBy start due sent work t k ≡ true → getD sent k 0 < getD work k 0
+ready-work start due sent work t k e =
+    ltb-true (getD sent k 0) (getD work k 0) (and-r (leb (getD start k 0) t && ltb t (getD due k 0)) (ltb (getD sent k 0) (getD work k 0)) e)
+
 pub ahead-by : (s : FlowSet) (st : State) (due : List ℕ) → ((k : ℕ) → getD due k 0 ≡ dueAt s st k) → aheadBy due ≡ ahead s st
 ahead-by s st due h = ap by (fun-ext h)
   where

@@ -1,7 +1,11 @@
 pub mod Lists
 pub mod Dues
+pub mod Order
 pub mod Choice
 pub mod States
+pub mod Links
 pub mod Channels
 pub mod Answers
 pub mod Slots
+pub mod Turns
+pub mod Runs

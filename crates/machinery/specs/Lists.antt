@@ -37,6 +37,18 @@ through-next f n old new x h e t =
       above = λ k l. getD-set-other new n k x 0 (λ q. omega arith) ∙ t .above k (omega arith);
     }
 
+-- an entry that is f's already may stay
+pub through-stay : (f : ℕ → ℕ) (n : ℕ) (old new : List ℕ) → getD old n 0 ≡ f n → Through f n old new → Through f (n + 1) old new
+through-stay f n old new e t =
+    record {
+      long = t .long;
+      below = λ k l. elim (decLe n k) [
+        | yes d ↦ let q : k ≡ n = omega arith in rw q (t .above n (le-refl n) ∙ e)
+        | no d ↦ t .below k (omega arith)
+      ];
+      above = λ k l. t .above k (omega arith);
+    }
+
 -- the same at an equal number of entries
 pub through-all : (f : ℕ → ℕ) (n m : ℕ) (old new : List ℕ) → n ≡ m → Through f n old new → Through f m old new
 through-all f n m old new e t = rw (← e) t

@@ -23,17 +23,19 @@ use Rattle.model.specs.declared.answers.Stepped.{Stepped}
 use Rattle.model.specs.Refusals.{good, noFault}
 use Rattle.model.specs.Reader.{recordFault}
 use Rattle.model.specs.Sums.{bit, anyTo}
-use Rattle.model.specs.Sets.{noFlow, freshState, flowAt, used, anyOf, memb, filterTo}
+use Rattle.model.specs.Sets.{noFlow, freshState, flowAt, used, anyOf, memb, meet, filterTo}
 use Rattle.model.specs.Delay.{ways, work, workAt}
-use Rattle.model.specs.Machine.{releaseAt, deadlineAt, had, ready, countAt, hadAt, readyAt, dueAt, ordered, place, placedAt, countAfter, deliveredAt, droppedAt, nextState, sendsAt, deliveriesOf, filled, noSend, noDelivery, stepIf, badState, runOf}
+use Rattle.model.specs.Machine.{releaseAt, deadlineAt, had, ready, countAt, hadAt, readyAt, dueAt, linkOf, tryOf, linkAt, radioChannel, sendOf, ordered, place, placedAt, countAfter, deliveredAt, droppedAt, nextState, sendsAt, deliveriesOf, filled, noSend, noDelivery, stepIf, badState, runOf}
 use Rattle.laws.specs.Accepted.{Accepted, accepted}
 use Rattle.laws.specs.Used.{used-map, used-count, used-flow}
 use Rattle.laws.specs.Sums.{and-l, and-r}
 use Rattle.machinery.specs.Lists.{Through, through-all, getD-zeros, any-ext, filter-none}
-use Rattle.machinery.specs.Dues.{dueIn, hadIn, readyIn, aheadBy, readyBy, Tables, Seen, had-is, ready-if, release-back, used-none, work-le-64}
-use Rattle.machinery.specs.Choice.{Choice, clashBy, orderedBy, placed-by, placed-each, placed-ready, placed-le, delivered-le, each-at, lined-each, ordered-in}
+use Rattle.machinery.specs.Dues.{dueIn, hadIn, readyIn, aheadBy, readyBy, Tables, Seen, had-is, ready-work, ready-if, release-back, used-none, work-le-64, accepted-count}
+use Rattle.machinery.specs.Order.{Each, each-at, each-wide, lined-each, ordered-each, ordered-in, keep, keep-all}
+use Rattle.machinery.specs.Choice.{Choice, linkBy, clashOf, orderedBy, placed-by, place-ext, placed-each, placed-ready, placed-le, delivered-le}
+use Rattle.machinery.specs.Links.{Routes, linkIn, link-is, link-in-route}
 use Rattle.machinery.specs.States.{mostCount, GoodState, count-after-le, fresh-good, good-not-bad, next-good, next-slot, step-good, run-none, run-next}
-use Rattle.machinery.specs.Answers.{sendsBy, length-sends, deliveredBy, deliveriesBy, length-deliveries, droppedBy, sends-by, deliveries-by, delivered-by, dropped-by, after-by, next-by, Delayed}
+use Rattle.machinery.specs.Answers.{sendIn, sendsOf, sends-by, length-from, deliveredBy, deliveriesBy, length-deliveries, droppedBy, deliveries-by, delivered-by, dropped-by, after-by, next-by, Delayed}
 
 -- what looking at each flow in slot t gives
 pub record Looked (count t : ℕ) (start period deadline work sent due order sent′ due′ order′ : List ℕ) (lined : ℕ) : Type 0 where
@@ -44,6 +46,10 @@ pub record Looked (count t : ℕ) (start period deadline work sent due order sen
   pub few : lined ≤ 64
   pub rest : drop lined order′ ≡ drop lined order
 
+had-le : (b : Bool) (n : ℕ) → cond b 0 n ≤ n
+had-le true n = zero-le
+had-le false n = le-refl n
+
 zero-both : (b : Bool) → _≡_ {A = ℕ} (cond b 0 0) 0
 zero-both true = refl
 zero-both false = refl
@@ -51,6 +57,17 @@ zero-both false = refl
 -- no flow: no deadline and no count
 none-due : (t : ℕ) → dueIn 0 0 0 t ≡ 0
 none-due t = rw (mul-zero ((t - 0) / 0))
+
+-- beyond the last flow there is no deadline and no count
+pub none-seen : (s : FlowSet) (st : State) → GoodState (used s) st → (k : ℕ) → s .count ≤ k
+    → (dueAt (used s) st k ≡ 0) × (hadAt (used s) st k ≡ 0) × (countAt st k ≡ 0)
+none-seen s st g k d =
+    let w : mostCount (used s) k ≡ 0 = rw (le-ltb k (used s .count) (rw (used-count s) d)) in
+    let n : countAt st k ≡ 0 = omega (arith, g .counts k) in (
+      ap (λ (f : Flow). deadlineAt f (st .slot .0)) (used-none s k d) ∙ none-due (st .slot .0),
+      rw n (zero-both (eqb (st .slot .0) (releaseAt (flowAt (used s) k) (st .slot .0)))),
+      n,
+    )
 
 pub seen-of : (s : FlowSet) (st : State) (start period deadline work due order due′ sent′ order′ : List ℕ) (lined : ℕ)
     → Tables (used s) start deadline work → ((k : ℕ) → getD period k 0 ≡ flowAt (used s) k .period .0) → GoodState (used s) st
@@ -60,18 +77,13 @@ seen-of s st start period deadline work due order due′ sent′ order′ lined 
   where
     dues : (k : ℕ) → getD due′ k 0 ≡ dueAt (used s) st k
     dues k = elim (decLe (s .count) k) [
-      | yes d ↦ l .dues .above k d ∙ z k d ∙ sym (none-due (st .slot .0)) ∙ ap (λ (f : Flow). deadlineAt f (st .slot .0)) (sym (used-none s k d))
+      | yes d ↦ l .dues .above k d ∙ z k d ∙ sym (none-seen s st g k d .0)
       | no d ↦ l .dues .below k (omega arith) ∙ rw (t .starts k, p k, t .deadlines k)
     ]
 
-    zero-count : (k : ℕ) → s .count ≤ k → countAt st k ≡ 0
-    zero-count k d =
-        let w : mostCount (used s) k ≡ 0 = rw (le-ltb k (used s .count) (rw (used-count s) d)) in
-        omega (arith, g .counts k)
-
     hads : (k : ℕ) → getD sent′ k 0 ≡ hadAt (used s) st k
     hads k = elim (decLe (s .count) k) [
-      | yes d ↦ l .hads .above k d ∙ zero-count k d ∙ sym (zero-both (eqb (st .slot .0) (releaseAt (flowAt (used s) k) (st .slot .0)))) ∙ ap (λ (n : ℕ). cond (eqb (st .slot .0) (releaseAt (flowAt (used s) k) (st .slot .0))) 0 n) (sym (zero-count k d))
+      | yes d ↦ l .hads .above k d ∙ none-seen s st g k d .2 ∙ sym (none-seen s st g k d .1)
       | no d ↦ l .hads .below k (omega arith) ∙ rw (dues k, t .deadlines k) (had-is (flowAt (used s) k) (st .slot .0) (countAt st k))
     ]
 
@@ -91,7 +103,8 @@ pub record Ready (s : FlowSet) (st : State) (start deadline work due sent order 
   pub before-last : st .slot .0 < lastSlot
   pub tables : Tables (used s) start deadline work
   pub seen : Seen (used s) st due sent
-  pub line : take lined order ≡ orderedBy (used s) (st .slot .0) start due sent work
+  pub line : keep (readyBy start due sent work (st .slot .0)) (take lined order) ≡ orderedBy (used s) (st .slot .0) start due sent work
+  pub low : (i : ℕ) → i < lined → getD order i 0 < 64
   pub few : lined ≤ 64
   pub long-order : length order ≡ 64
   pub long-sent : length sent ≡ 64
@@ -104,31 +117,87 @@ module _ (s : FlowSet) (st : State) (start deadline work due sent order : List �
 
   -- beyond the last flow a count is 0
   pub none-sent : (k : ℕ) → s .count ≤ k → getD sent k 0 ≡ 0
-  none-sent k d =
-      let w : mostCount (used s) k ≡ 0 = rw (le-ltb k (used s .count) (rw (used-count s) d)) in
-      let n : countAt st k ≡ 0 = omega (arith, r .good-state .counts k) in
-      r .seen .hads k ∙ rw n (zero-both (eqb (st .slot .0) (releaseAt (flowAt (used s) k) (st .slot .0))))
+  none-sent k d = r .seen .hads k ∙ none-seen s st (r .good-state) k d .1
 
-  -- the ordered are flows of the set, short of their C
-  pub ordered-short : (i : ℕ) → i < lined → (getD order i 0 < s .count) × (getD sent (getD order i 0) 0 < workAt (used s) (getD order i 0))
-  ordered-short i h =
-      let k = getD order i 0 in
-      let w = lined-each (aheadBy due) (readyBy start due sent work (st .slot .0)) (used s .count) order lined (omega (arith, r .few, r .long-order)) (r .line) i h in
-      let l : getD sent k 0 < getD work k 0 = ltb-true _ _ (and-r (leb (getD start k 0) (st .slot .0) && ltb (st .slot .0) (getD due k 0)) (ltb (getD sent k 0) (getD work k 0)) (w .1)) in
-      (rw (used-count s) at (w .0), rw (r .tables .works k) at l)
+  -- a count is at most 64
+  pub sent-le : (k : ℕ) → getD sent k 0 ≤ 64
+  sent-le k = elim (decLe (s .count) k) [
+    | yes d ↦ omega (arith, none-sent k d)
+    | no d ↦
+        let w = g .counts k in
+        let l : mostCount (used s) k ≡ workAt (used s) k = rw (lt-ltb k (used s .count) (rw (used-count s) (omega arith))) in
+        omega (arith, w, l, work-small k (omega arith), r .seen .hads k, had-le (eqb (st .slot .0) (releaseAt (flowAt (used s) k) (st .slot .0))) (countAt st k))
+  ]
+    where
+      g : GoodState (used s) st
+      g = r .good-state
 
-  pub placed-is : place (ways (used s)) (clashBy (used s) sent) [] (take lined order) ≡ placedAt (used s) st
-  placed-is = ap (place (ways (used s)) (clashBy (used s) sent) []) (r .line) ∙ placed-by (used s) st start deadline work due sent (r .tables) (r .seen)
+  module _ (tries : List ℕ) (routes : List (List ℕ)) (w : Routes s tries routes) where
+    -- the ready are short of their C, so their links are those of the arrays
+    pub ready-short : (k : ℕ) → getD sent k 0 < getD work k 0 → (0 < getD tries k 0) × (getD sent k 0 / getD tries k 0 < 16)
+    ready-short k h = link-in-route s tries routes (r .good-set) w sent k (rw (r .tables .works k) at h)
+
+    pub placed-is : place (ways (used s)) (clashOf (linkIn sent tries routes)) [] (keep (readyBy start due sent work (st .slot .0)) (take lined order))
+        ≡ placedAt (used s) st
+    placed-is =
+        ap (place (ways (used s)) (clashOf (linkIn sent tries routes)) []) (r .line)
+        ∙ place-ext Short (ways (used s)) (clashOf (linkIn sent tries routes)) (clashOf (linkBy (used s) sent))
+        (λ k l a b. ap₂ meet (link-is s tries routes (r .good-set) w sent k a) (link-is s tries routes (r .good-set) w sent l b)) [] _ tt
+        (each-wide (λ k. (k < used s .count) × (readyBy start due sent work (st .slot .0) k ≡ true)) Short short (orderedBy (used s) (st .slot .0) start due sent work) (ordered-each (aheadBy due) (readyBy start due sent work (st .slot .0)) (used s .count)))
+        ∙ placed-by (used s) st start deadline work due sent (r .tables) (r .seen)
+      where
+        Short : ℕ → Type 0
+        Short k = getD sent k 0 < workAt (used s) k
+
+        short : (k : ℕ) → (k < used s .count) × (readyBy start due sent work (st .slot .0) k ≡ true) → Short k
+        short k e = rw (r .tables .works k) at (ready-work start due sent work (st .slot .0) k (e .1))
 
   module _ (chosen marked : List ℕ) (n : ℕ) (c : Choice (placedAt (used s) st) chosen marked n) where
-    -- the placed are flows of the set, short of their C
-    pub placed-short : (i : ℕ) → i < n → (getD chosen i 0 < s .count) × (getD sent (getD chosen i 0) 0 < workAt (used s) (getD chosen i 0))
-    placed-short i h =
-        let k = getD chosen i 0 in
-        let l : length (take n chosen) ≡ n = length-take-le n chosen (omega (arith, c .few, c .long-chosen)) in
-        let a = each-at (λ j. (j < used s .count) × (readyAt (used s) st j ≡ true)) (take n chosen) (rw (c .list) (placed-each (used s) st)) i (rw l h) in
-        let b = rw (getD-take n chosen i 0 h) at a in
-        (rw (used-count s) at (b .0), rw (r .seen .hads k) (ready-if (flowAt (used s) k) (st .slot .0) (countAt st k) (b .1) .2))
+    module _ (tries : List ℕ) (routes : List (List ℕ)) (w : Routes s tries routes) where
+      -- the placed are flows of the set, short of their C
+      abbrev Short : ℕ → Type 0
+      Short k = (k < s .count) × (getD sent k 0 < workAt (used s) k)
+
+      each-short : Each Short (placedAt (used s) st)
+      each-short =
+          each-wide (λ j. (j < used s .count) × (readyAt (used s) st j ≡ true)) Short
+          (λ k b. (rw (used-count s) at (b .0), rw (r .seen .hads k) (ready-if (flowAt (used s) k) (st .slot .0) (countAt st k) (b .1) .2)))
+          (placedAt (used s) st) (placed-each (used s) st)
+
+      pub placed-short : (i : ℕ) → i < n
+          → (getD chosen i 0 < 64) × (0 < getD tries (getD chosen i 0) 0) × (getD sent (getD chosen i 0) 0 / getD tries (getD chosen i 0) 0 < 16)
+      placed-short i h =
+          let l : length (take n chosen) ≡ n = length-take-le n chosen (omega (arith, c .few, c .long-chosen)) in
+          let b = rw (getD-take n chosen i 0 h) at (each-at Short (take n chosen) (rw (c .list) each-short) i (rw l h)) in
+          let d = link-in-route s tries routes (r .good-set) w sent (getD chosen i 0) (b .1) in
+          (omega (arith, b .0, accepted-count s (r .good-set)), d .0, d .1)
+
+      -- and what they send is what the machine sends
+      send-is : (k o : ℕ) → Short k → sendIn (s .map .0) (st .slot) tries routes k (getD sent k 0) o ≡ sendOf (used s) st k o
+      unfolding sendOf
+      send-is k o h =
+          ap (λ (l : List ℕ). made (s .map .0) l (getD sent k 0 % getD tries k 0)) (link-is s tries routes (r .good-set) w sent k (h .1) ∙ ap (linkOf (flowAt (used s) k)) (r .seen .hads k))
+          ∙ ap₂ (λ (m : ChannelMap) (a : ℕ). made (m .0) (linkAt (used s) st k) a) (sym (used-map s)) tried
+        where
+          made : ℕ → List ℕ → ℕ → Send
+          made m l a =
+              record {
+                slot = st .slot;
+                flow = k;
+                from = getD l 0 0;
+                to = getD l 1 0;
+                attempt = a;
+                offset = o;
+                channel = radioChannel m (st .slot .0) o;
+              }
+
+          tried : getD sent k 0 % getD tries k 0 ≡ tryOf (flowAt (used s) k) (hadAt (used s) st k)
+          tried = ap₂ (λ (x y : ℕ). x % y) (r .seen .hads k) (w .tries-are k (h .0) ∙ ap (λ (f : Flow). f .tries) (sym (used-flow s k (h .0))))
+
+      pub sends-is : sendsOf (λ k o. sendIn (s .map .0) (st .slot) tries routes k (getD sent k 0) o) 0 (take n chosen) ≡ sendsAt (used s) st
+      sends-is =
+          ap (sendsOf (λ k o. sendIn (s .map .0) (st .slot) tries routes k (getD sent k 0) o) 0) (c .list)
+          ∙ sends-by Short (used s) st (λ k o. sendIn (s .map .0) (st .slot) tries routes k (getD sent k 0) o) send-is 0 (placedAt (used s) st) each-short
 
     pub sent-small : (k : ℕ) → getD sent k 0 + getD marked k 0 ≤ 64
     sent-small k = elim (decLe (s .count) k) [
@@ -165,7 +234,7 @@ module _ (s : FlowSet) (st : State) (start deadline work due sent order : List �
 
     -- the arrays' answer is the step's
     pub slot-answer : (list : List Send) (dn : ℕ) (ds : List Delivery) (xn : ℕ) (xs counts : List ℕ)
-        → list ≡ filled 16 noSend (sendsBy (used s) (st .slot) sent 0 (take n chosen))
+        → list ≡ filled 16 noSend (sendsAt (used s) st)
         → dn ≡ length (filterTo (deliveredBy sent work marked) (s .count))
         → ds ≡ filled 16 noDelivery (deliveriesBy (st .slot .0) deadline due (filterTo (deliveredBy sent work marked) (s .count)))
         → xn ≡ length (filterTo (droppedBy (st .slot .0) start due sent work marked) (s .count))
@@ -176,10 +245,8 @@ module _ (s : FlowSet) (st : State) (start deadline work due sent order : List �
     slot-answer list dn ds xn xs counts a b d e f g =
         let u : FlowSet = used s in
         let q = used-count s in
-        let hs = sends-by u st start deadline work due sent (r .tables) (r .seen) 0 in
-        let ss : sendsBy u (st .slot) sent 0 (take n chosen) ≡ sendsAt u st = ap (sendsBy u (st .slot) sent 0) (c .list) ∙ hs (placedAt u st) in
         let sn : n ≡ length (sendsAt u st) =
-        sym (length-take-le n chosen (omega (arith, c .few, c .long-chosen))) ∙ sym (length-sends u (st .slot) sent 0 (take n chosen)) ∙ ap length ss in
+        sym (length-take-le n chosen (omega (arith, c .few, c .long-chosen))) ∙ ap length (c .list) ∙ sym (length-from u st 0 (placedAt u st)) in
         let ks : filterTo (deliveredBy sent work marked) (s .count) ≡ filterTo (deliveredAt u st) (u .count) =
         ap₂ filterTo (delivered-by u st start deadline work due sent (r .tables) (r .seen) chosen marked n c) (sym q) in
         let dd : deliveriesBy (st .slot .0) deadline due (filterTo (deliveredBy sent work marked) (s .count)) ≡ deliveriesOf u st (filterTo (deliveredAt u st) (u .count)) =
@@ -192,7 +259,7 @@ module _ (s : FlowSet) (st : State) (start deadline work due sent order : List �
         next-by u st start deadline work due sent (r .tables) (r .seen) chosen marked n c counts (r .long-sent)
         (λ k h. none-sent k (rw q at h)) (through-all _ _ _ _ _ (sym q) g) in
         answer-ext (record { slot = record { 0 = st .slot .0 + 1 }; sent = counts }) (nextState u st) (ap (λ (l : List ℕ). record { slot = record { 0 = st .slot .0 + 1 }; sent = l }) nn)
-        sn (a ∙ ap (filled 16 noSend) ss) (b ∙ dl) (d ∙ ap (filled 16 noDelivery) dd) (e ∙ ap length xx) (f ∙ ap (filled 64 0) xx)
+        sn a (b ∙ dl) (d ∙ ap (filled 16 noDelivery) dd) (e ∙ ap length xx) (f ∙ ap (filled 64 0) xx)
 
 -- a blank array whose first entries are f's reads as f, where f is 0 beyond them
 through-blank : (f : ℕ → ℕ) (n m : ℕ) (new : List ℕ) → Through f n (replicate m 0) new → ((k : ℕ) → n ≤ k → f k ≡ 0) → (k : ℕ) → getD new k 0 ≡ f k
@@ -240,19 +307,19 @@ pub record Idle (st : State) (sent : List ℕ) (a : Stepped) : Type 0 where
   pub none-delivered : a .deliveries ≡ 0
   pub none-dropped : a .drops ≡ 0
 
-pub idle-slot : (s : FlowSet) (st : State) (start deadline work due sent order : List ℕ) → Ready s st start deadline work due sent order 0
-    → Idle st sent (stepIf (used s) st true)
+pub idle-slot : (s : FlowSet) (st : State) (start deadline work due sent order : List ℕ) (lined : ℕ) → Ready s st start deadline work due sent order lined
+    → orderedBy (used s) (st .slot .0) start due sent work ≡ [] → Idle st sent (stepIf (used s) st true)
 unfolding place anyOf
-idle-slot s st start deadline work due sent order r =
+idle-slot s st start deadline work due sent order lined r none =
     let b : List ℕ = replicate 64 0 in
     let h : List ℕ = replicate 16 0 in
     let c : Choice (placedAt (used s) st) h b 0 =
-    rw (← placed-is s st start deadline work due sent order 0 r)
+    rw (← placed-by (used s) st start deadline work due sent (r .tables) (r .seen), none)
     (record { list = refl; marks = marks; few = zero-le; long-chosen = refl; long-marked = refl }) in
     let d : filterTo (deliveredBy sent work b) (s .count) ≡ [] = filter-none (deliveredBy sent work b) (s .count) (λ k l. rw (getD-zeros 64 k)) in
     let x : filterTo (droppedBy (st .slot .0) start due sent work b) (s .count) ≡ [] =
     filter-none (droppedBy (st .slot .0) start due sent work b) (s .count) (λ k l. not-dropped k l (droppedBy (st .slot .0) start due sent work b k) refl) in
-    let e = slot-answer s st start deadline work due sent order 0 r h b 0 c _ _ _ _ _ sent refl refl refl refl refl
+    let e = slot-answer s st start deadline work due sent order lined r h b 0 c _ _ _ _ _ sent refl refl refl refl refl
     (record { long = refl; below = λ k l. rw (getD-zeros 64 k, add-zero); above = λ k l. refl }) in
     record {
       next-is = ap (λ (a : Stepped). a .next) (sym e);
@@ -276,7 +343,7 @@ idle-slot s st start deadline work due sent order r =
         let y : readyBy start due sent work t k ≡ true =
         rw (and-l p q w, lt-ltb t (getD due k 0) (omega arith), lt-ltb (getD sent k 0) (getD work k 0) (omega (arith, getD-zeros 64 k))) in
         let z = ordered-in (aheadBy due) (readyBy start due sent work t) (used s .count) k (rw (used-count s) l) y in
-        absurd (omega (arith, ap length (r .line)))
+        absurd (omega (arith, ap length none))
 
 -- an accepted set's numbers in arrays, each within its bounds
 pub record Prepared (s : FlowSet) (start period deadline work : List ℕ) : Type 0 where
@@ -284,6 +351,7 @@ pub record Prepared (s : FlowSet) (start period deadline work : List ℕ) : Type
   pub tables : Tables (used s) start deadline work
   pub periods : (k : ℕ) → getD period k 0 ≡ flowAt (used s) k .period .0
   pub small-start : (k : ℕ) → getD start k 0 ≤ 65535
+  pub small-period : (k : ℕ) → getD period k 0 ≤ 65535
   pub small-deadline : (k : ℕ) → getD deadline k 0 ≤ 65535
 
 pub prepared : (s : FlowSet) (start period deadline work : List ℕ) → good (recordFault (used s) .refusal) ≡ true
@@ -291,14 +359,15 @@ pub prepared : (s : FlowSet) (start period deadline work : List ℕ) → good (r
     → Through (λ k. flowAt (used s) k .period .0) (s .count) (replicate 64 0) period
     → Through (λ k. flowAt (used s) k .deadline .0) (s .count) (replicate 64 0) deadline
     → Through (λ k. workAt (used s) k) (s .count) (replicate 64 0) work
-    → ((k : ℕ) → k < s .count → (getD start k 0 ≤ 65535) × (getD deadline k 0 ≤ 65535)) → Prepared s start period deadline work
+    → ((k : ℕ) → k < s .count → (getD start k 0 ≤ 65535) × (getD period k 0 ≤ 65535) × (getD deadline k 0 ≤ 65535)) → Prepared s start period deadline work
 prepared s start period deadline work g a b c d m =
     record {
       good-set = g;
       tables = tables-of s start deadline work a c d;
       periods = periods-of s period b;
       small-start = λ k. elim (decLe (s .count) k) [ yes h ↦ rw (a .above k h, getD-zeros 64 k) zero-le | no h ↦ m k (omega arith) .0 ];
-      small-deadline = λ k. elim (decLe (s .count) k) [ yes h ↦ rw (c .above k h, getD-zeros 64 k) zero-le | no h ↦ m k (omega arith) .1 ];
+      small-period = λ k. elim (decLe (s .count) k) [ yes h ↦ rw (b .above k h, getD-zeros 64 k) zero-le | no h ↦ m k (omega arith) .1 ];
+      small-deadline = λ k. elim (decLe (s .count) k) [ yes h ↦ rw (c .above k h, getD-zeros 64 k) zero-le | no h ↦ m k (omega arith) .2 ];
     }
 
 -- what a look at the flows asks
@@ -319,12 +388,20 @@ ready-of s st start period deadline work due order sent′ due′ order′ lined
       before-last = h;
       tables = p .tables;
       seen = seen-of s st start period deadline work due order due′ sent′ order′ lined (p .tables) (p .periods) g z l;
-      line = l .line ∙ ap (ordered (aheadBy due′) (readyBy start due′ sent′ work (st .slot .0))) (sym (used-count s));
+      line = ap (keep ready) (l .line) ∙ keep-all ready (ordered (aheadBy due′) ready (s .count)) all
+          ∙ ap (ordered (aheadBy due′) ready) (sym (used-count s));
+      low = λ i h. omega (arith, lined-each (aheadBy due′) ready (s .count) order′ lined (omega (arith, l .few, l .long)) (l .line) i h .0, accepted-count s (p .good-set));
       few = l .few;
       long-order = l .long;
       long-sent = l .hads .long ∙ g .long;
       small = p .small-deadline;
     }
+  where
+    ready : ℕ → Bool
+    ready = readyBy start due′ sent′ work (st .slot .0)
+
+    all : Each (λ k. ready k ≡ true) (ordered (aheadBy due′) ready (s .count))
+    all = each-wide (λ k. (k < s .count) × (ready k ≡ true)) (λ k. ready k ≡ true) (λ k e. e .1) (ordered (aheadBy due′) ready (s .count)) (ordered-each (aheadBy due′) ready (s .count))
 
 -- a run as far as slot t
 pub record Running (s : FlowSet) (fault : Fault) (st : State) (delivered dropped t : ℕ) : Type 0 where

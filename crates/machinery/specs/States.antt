@@ -43,7 +43,7 @@ neither : (p q : Bool) → (p || q) ≡ false → (p ≡ false) × (q ≡ false)
 neither true q h = absurd (false≢true (sym h))
 neither false q h = (refl, h)
 
-any-all : (p : ℕ → Bool) (n : ℕ) → ((k : ℕ) → k < n → p k ≡ false) → anyTo p n ≡ false
+pub any-all : (p : ℕ → Bool) (n : ℕ) → ((k : ℕ) → k < n → p k ≡ false) → anyTo p n ≡ false
 unfolding anyTo
 any-all p zero h = refl
 any-all p (suc n) h = rw (any-all p n (λ k l. h k (omega arith)), h n (le-refl (suc n)))

@@ -6,11 +6,9 @@ use mathlib.Core.Bool.{Bool, true, false, false≢true}
 use mathlib.Core.List.{List, [], _∷_}
 use Prim.Native.Nat.{ℕ, zero, suc, _+_, _-_, _*_, _/_, _≤_, _<_}
 use native.Mathlib.Nat.{add-zero, zero-mul, suc-mul}
-use native.Mathlib.Decide.{decLe}
 use native.Mathlib.Numerals.{add-one}
 use native.Mathlib.Omega.{arith}
-use lib.Arith.{digits-div, bin-ind}
-use lib.Count.{ones, ones-step}
+use lib.Arith.{digits-div}
 use lib.Dec.{eqb}
 use lib.ListN.{getD, take, drop}
 use borrow.Author.Tests.{le-leb, eq-eqb, ne-eqb}
@@ -25,7 +23,7 @@ use Rattle.model.specs.Reader.{recordFault}
 use Rattle.model.specs.Delay.{ways, period, deadline, links, work, workAt, touches, conflictWork, share, overOthers, boundWith, valueAt}
 use Rattle.model.specs.Machine.{had, releaseAt, deadlineAt, nextCount, countAt, hadAt, readyAt, dueAt, linkAt, ahead, clashAt, placedAt, countAfter}
 use Rattle.laws.specs.Sums.{count, sum-ext, sum-const, sum-split}
-use Rattle.laws.specs.Accepted.{Accepted, accepted}
+use Rattle.laws.specs.Accepted.{Accepted, accepted, ones-pos}
 use Rattle.argument.specs.Members.{memb-none, memb-tail, memb-case, memb-head, one-of, some-of}
 use Rattle.argument.specs.Load as load
 use Rattle.argument.specs.Within.{Ready, Schedule, value, others}
@@ -83,14 +81,6 @@ meeting-touches : (a r : List ℕ) (i : ℕ) → meet (take 2 (drop i r)) a ≡ 
 meeting-touches a r i h =
     let w = meet-case (take 2 (drop i r)) a h in
     meet-by a r (w .0) (w .2) (memb-drop (w .0) i r (memb-take (w .0) 2 (drop i r) (w .1)))
-
--- a number other than 0 has a bit that is one
-ones-pos : (n : ℕ) → 0 < n → 0 < ones n
-ones-pos n = bin-ind (λ (n : ℕ). 0 < n → 0 < ones n) (λ h. absurd (omega arith)) (λ n ih h. go n ih h (decLe 1 (n / 2))) n
-  where
-    go : (n : ℕ) → (0 < n / 2 → 0 < ones (n / 2)) → 0 < n → Dec (1 ≤ n / 2) → 0 < ones n
-    go n ih h (yes l) = omega (arith, ones-step n, ih l)
-    go n ih h (no l) = omega (arith, ones-step n)
 
 -- what goes ahead is due no later
 due-le : (s : FlowSet) (st : State) (l k : ℕ) → ahead s st l k ≡ true → dueAt s st l ≤ dueAt s st k

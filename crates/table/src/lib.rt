@@ -2,13 +2,14 @@
 ghost use mathlib.Core.Path.{_≡_};
 ghost use mathlib.Core.Bool.{true};
 ghost use Prim.Native.Nat.{ℕ, _+_, _≤_, _<_};
-ghost use lib.ListN.{getD, length};
+ghost use lib.ListN.{getD, length, set};
 ghost use Rattle.model.specs.Refusals.{good};
 ghost use Rattle.model.specs.Reader.{recordFault};
 ghost use Rattle.model.specs.Sets.{flowAt, used};
 ghost use Rattle.model.specs.Delay.{workAt};
 ghost use Rattle.machinery.specs.Lists.{Through};
 ghost use Rattle.machinery.specs.Dues.{dueIn, hadIn};
+ghost use Rattle.machinery.specs.Links.{Routes};
 use model::Flow;
 use model::FlowSet;
 
@@ -26,7 +27,7 @@ pub fn tables(
     ensures periods { λ r. ⌜ Through (λ k. flowAt (used s) k .period .0) (s .count) (now (period .entry)) (now (period .exit)) ⌝ }
     ensures deadlines { λ r. ⌜ Through (λ k. flowAt (used s) k .deadline .0) (s .count) (now (deadline .entry)) (now (deadline .exit)) ⌝ }
     ensures works { λ r. ⌜ Through (λ k. workAt (used s) k) (s .count) (now (work .entry)) (now (work .exit)) ⌝ }
-    ensures small { λ r. ⌜ ((k : ℕ) → k < s .count → (getD (now (start .exit)) k 0 ≤ 65535) × (getD (now (deadline .exit)) k 0 ≤ 65535)) ⌝ }
+    ensures small { λ r. ⌜ ((k : ℕ) → k < s .count → (getD (now (start .exit)) k 0 ≤ 65535) × (getD (now (period .exit)) k 0 ≤ 65535) × (getD (now (deadline .exit)) k 0 ≤ 65535)) ⌝ }
 {
     let count = s.count as usize;
     let mut k = 0;
@@ -36,6 +37,42 @@ pub fn tables(
         period[k] = f.period.0 as u32;
         deadline[k] = f.deadline.0 as u32;
         work[k] = f.work() as u8;
+        k += 1;
+    }
+}
+
+// Flow k's tries and route put in their places. A record says nothing of its array's length, so it is said here.
+fn put_route(
+    k: usize,
+    f: Flow,
+    tries: &mut [u16; Flow::MOST],
+    routes: &mut [[u16; Flow::MOST_NODES]; Flow::MOST],
+)
+    requires { ⌜ (k < 64) × (length (now tries) ≡ 64) × (length (now routes) ≡ 64) ⌝ }
+    ensures tries { λ r. ⌜ now (tries .exit) ≡ set (now (tries .entry)) k (f .tries) ⌝ }
+    ensures routes { λ r. ⌜ now (routes .exit) ≡ set (now (routes .entry)) k (f .route) ⌝ }
+    ensures long { λ r. ⌜ length (f .route) ≡ 17 ⌝ }
+{
+    let route = f.route;
+    tries[k] = f.tries;
+    routes[k] = route;
+}
+
+// An accepted set's tries and routes, in the first entries of two arrays.
+pub fn routes(
+    s: FlowSet,
+    tries: &mut [u16; Flow::MOST],
+    routes: &mut [[u16; Flow::MOST_NODES]; Flow::MOST],
+)
+    requires { ⌜ good (recordFault (used s) .refusal) ≡ true ⌝ }
+    requires { ⌜ (length (now tries) ≡ 64) × (length (now routes) ≡ 64) ⌝ }
+    ensures { λ r. ⌜ Routes s (now (tries .exit)) (now (routes .exit)) ⌝ }
+{
+    let count = s.count as usize;
+    let mut k = 0;
+    while k < count {
+        let f = s.flows[k];
+        put_route(k, f, tries, routes);
         k += 1;
     }
 }

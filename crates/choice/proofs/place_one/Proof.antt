@@ -1,17 +1,30 @@
--- `place_one` changes the arrays exactly where both tests pass. Assumes nothing.
+-- `place_one` changes the arrays exactly where the link is free. Assumes nothing.
 use Rattle.machinery.specs.Choice.{one-none, one-more}
-use borrow.Author.Tests.{lt-ltb, le-ltb}
-use mathlib.Core.Bool.{Bool, true, false, not, _&&_, and-false}
-use mathlib.Core.Path.{_≡_, refl, sym, ap, _∙_}
+use Rattle.machinery.specs.Links.{busy-more}
+use native.Mathlib.Omega.{arith}
+use mathlib.Core.Bool.{not}
+use mathlib.Core.Path.{sym, ap, _∙_}
 use borrow.Author.Needs.{needs}
 use Rattle.choice.proofs.place_one.Statement.{statement}
 use Rattle.choice.proofs.place_one.Tie as tie
 
-clashes-requires : tie.Need-clashes-requires
-clashes-requires c κs = search needs
+is-taken-requires : tie.Need-is-taken-requires
+is-taken-requires c κs = search needs
 
 returns : tie.Need-returns
-returns c = one-none _ _ _ _ _ _ _ _ _ (rw (sym (c .before .clashes .ensures) ∙ c .if2 .taken, and-false))
+returns c = (one-none _ _ _ _ _ _ _ _ _ (ap not (sym (c .before .is-taken .ensures) ∙ c .if1 .taken)), c .before .before .before .before .before .pre .2)
+
+cast-f : tie.Need-cast-f
+cast-f c = search needs
+
+cast-g : tie.Need-cast-g
+cast-g c = search needs
+
+element-write-busy : tie.Need-element-write-busy
+element-write-busy c = search needs
+
+element-write-busy-2 : tie.Need-element-write-busy-2
+element-write-busy-2 c = search needs
 
 mul-from : tie.Need-mul-from
 mul-from c = search needs
@@ -38,17 +51,20 @@ add-result : tie.Need-add-result
 add-result c = search needs
 
 returns-2 : tie.Need-returns-2
-returns-2 c = one-more _ _ _ _ _ _ _ _ _ (rw (lt-ltb _ _ (c .before .before .before .before .if1 .taken), sym (c .before .clashes .ensures) ∙ c .if2 .left))
-
-returns-3 : tie.Need-returns-3
-returns-3 c = one-none _ _ _ _ _ _ _ _ _ (rw (le-ltb _ _ (c .if1 .left)))
+returns-2 c =
+    let p = c .before .before .before .before .before .before .before .pre in
+    (one-more _ _ _ _ _ _ _ _ _ (ap not (sym (c .before .before .before .is-taken .ensures) ∙ c .before .before .if1 .left)), busy-more _ _ _ _ _ _ (omega (arith, p .1, p .3)) (omega (arith, p .1, p .4)) (p .2))
 
 pub place-one-spec : {M : Type 1} → statement M
 place-one-spec =
     tie.close
     (tie.spec
-    clashes-requires
+    is-taken-requires
     returns
+    cast-f
+    cast-g
+    element-write-busy
+    element-write-busy-2
     mul-from
     element-write-from
     mul-to
@@ -57,5 +73,4 @@ place-one-spec =
     element-write-chosen
     element-write-marked
     add-result
-    returns-2
-    returns-3)
+    returns-2)

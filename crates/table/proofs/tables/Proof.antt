@@ -21,6 +21,7 @@ Inv-loop start₀ period₀ deadline₀ work₀ s count k₀ start period deadli
     × Through (λ j. flowAt (used s) j .deadline .0) k deadline₀ deadline
     × Through (λ j. workAt (used s) j) k work₀ work
     × ((j : ℕ) → j < k → getD start j 0 ≤ 65535)
+    × ((j : ℕ) → j < k → getD period j 0 ≤ 65535)
     × ((j : ℕ) → j < k → getD deadline j 0 ≤ 65535)
 
 abbrev μ-loop : tie.MeasureT-loop
@@ -31,7 +32,7 @@ cast-count c = search needs
 
 loop-holds : tie.Need-loop-holds Inv-loop μ-loop
 loop-holds c =
-    (search needs, accepted-count (c .args .t1) (c .pre .0), through-none _ _, through-none _ _, through-none _ _, through-none _ _, λ j h. absurd (omega arith), λ j h. absurd (omega arith))
+    (search needs, accepted-count (c .args .t1) (c .pre .0), through-none _ _, through-none _ _, through-none _ _, through-none _ _, λ j h. absurd (omega arith), λ j h. absurd (omega arith), λ j h. absurd (omega arith))
 
 mul-f : tie.Need-mul-f Inv-loop μ-loop
 mul-f c = search needs
@@ -94,6 +95,7 @@ loop-again c =
     let h : v .k < a .t1 .count = search needs in
     let u = sym (used-flow (a .t1) (v .k) h) in
     let x : flowAt (a .t1) (v .k) .start ≤ 65535 = search needs in
+    let z : flowAt (a .t1) (v .k) .period .0 ≤ 65535 = search needs in
     let y : flowAt (a .t1) (v .k) .deadline .0 ≤ 65535 = search needs in (
       search needs,
       v .inv .1,
@@ -102,14 +104,15 @@ loop-again c =
       through-next _ (v .k) _ _ _ (omega arith) (ap (λ (f : Flow). f .deadline .0) u) (v .inv .4),
       through-next _ (v .k) _ _ _ (omega arith) (c .work .ensures ∙ ap work u) (v .inv .5),
       set-le (v .start) (v .k) _ 65535 (rw (v .inv .2 .long) (omega arith)) (v .inv .6) x,
-      set-le (v .deadline) (v .k) _ 65535 (rw (v .inv .4 .long) (omega arith)) (v .inv .7) y,
+      set-le (v .period) (v .k) _ 65535 (rw (v .inv .3 .long) (omega arith)) (v .inv .7) z,
+      set-le (v .deadline) (v .k) _ 65535 (rw (v .inv .4 .long) (omega arith)) (v .inv .8) y,
     )
 
 returns : tie.Need-returns Inv-loop μ-loop
 returns c =
     let e : c .before .loop .k ≡ c .before .before .args .t1 .count = search needs in
     let i = c .before .loop .inv in
-    (through-all _ _ _ _ _ e (i .2), (through-all _ _ _ _ _ e (i .3), (through-all _ _ _ _ _ e (i .4), (through-all _ _ _ _ _ e (i .5), λ k h. (i .6 k (omega arith), i .7 k (omega arith))))))
+    (through-all _ _ _ _ _ e (i .2), (through-all _ _ _ _ _ e (i .3), (through-all _ _ _ _ _ e (i .4), (through-all _ _ _ _ _ e (i .5), λ k h. (i .6 k (omega arith), i .7 k (omega arith), i .8 k (omega arith))))))
 
 pub tables-spec : {M : Type 1} → statement M
 tables-spec =

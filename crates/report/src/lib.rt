@@ -1,0 +1,140 @@
+// Rule 6: what a slot reports, its deliveries and its drops, and each flow's next count.
+ghost use mathlib.Core.Path.{_≡_};
+ghost use mathlib.Core.Bool.{_&&_};
+ghost use mathlib.Core.List.{[]};
+ghost use Prim.Native.Nat.{ℕ, _+_, _≤_};
+ghost use lib.Dec.{leb, ltb, eqb};
+ghost use lib.ListN.{getD, length};
+ghost use Rattle.model.specs.Sets.{filterTo};
+ghost use Rattle.model.specs.Machine.{filled, noDelivery};
+ghost use Rattle.machinery.specs.Lists.{Through};
+ghost use Rattle.machinery.specs.Answers.{deliveredBy, deliveriesBy, delayIn, droppedBy, Delayed};
+use model::ChannelMap;
+use model::Delivery;
+use model::Flow;
+use model::Span;
+
+// Placed, and this was transmission C − 1.
+pub fn is_delivered(marked: u8, sent: u8, work: u8) -> bool
+    requires { ⌜ sent ≤ 64 ⌝ }
+    ensures { λ r. ⌜ r ≡ (eqb marked 1 && eqb (sent + 1) work) ⌝ }
+{
+    if marked == 1 {
+        return sent + 1 == work;
+    }
+    false
+}
+
+// The slots from a packet's release to t, both counted.
+fn delay_of(t: u32, due: u32, deadline: u32) -> Span
+    requires { ⌜ Delayed t due deadline ⌝ }
+    ensures { λ r. ⌜ r .0 ≡ delayIn t due deadline ⌝ }
+{
+    Span((t - (due - deadline) + 1) as u16)
+}
+
+pub struct Delivered {
+    pub count: u16,
+    pub list: [Delivery; ChannelMap::MOST],
+}
+
+// The packets delivered in slot t, in rising flow number.
+pub fn deliveries(
+    count: usize,
+    t: u32,
+    deadline: &[u32; Flow::MOST],
+    due: &[u32; Flow::MOST],
+    sent: &[u8; Flow::MOST],
+    work: &[u8; Flow::MOST],
+    marked: &[u8; Flow::MOST],
+) -> Delivered
+    requires { ⌜ (count ≤ 64) × (length (filterTo (deliveredBy (now sent) (now work) (now marked)) count) ≤ 16) ⌝ }
+    requires { ⌜ ((k : ℕ) → getD (now sent) k 0 ≤ 64) ⌝ }
+    requires { ⌜ ((k : ℕ) → getD (now marked) k 0 ≡ 1 → Delayed t (getD (now due) k 0) (getD (now deadline) k 0)) ⌝ }
+    ensures count { λ r. ⌜ r .count ≡ length (filterTo (deliveredBy (now (sent .entry)) (now (work .entry)) (now (marked .entry))) count) ⌝ }
+    ensures list { λ r. ⌜ r .list ≡ filled 16 noDelivery (deliveriesBy t (now (deadline .entry)) (now (due .entry)) (filterTo (deliveredBy (now (sent .entry)) (now (work .entry)) (now (marked .entry))) count)) ⌝ }
+{
+    let none = Delivery {
+        flow: 0,
+        delay: Span(0),
+    };
+    let mut list = [none; ChannelMap::MOST];
+    let mut n: usize = 0;
+    let mut k = 0;
+    while k < count {
+        if is_delivered(marked[k], sent[k], work[k]) {
+            let delay = delay_of(t, due[k], deadline[k]);
+            list[n] = Delivery {
+                flow: k as u16,
+                delay,
+            };
+            n += 1;
+            k += 1;
+        } else {
+            k += 1;
+        }
+    }
+    Delivered {
+        count: n as u16,
+        list,
+    }
+}
+
+// In the last slot before its absolute deadline, and still short after it.
+pub fn is_dropped(t: u32, start: u32, due: u32, after: u8, work: u8) -> bool
+    requires { ⌜ t ≤ 4000000000 ⌝ }
+    ensures { λ r. ⌜ r ≡ (leb start t && eqb (t + 1) due && ltb after work) ⌝ }
+{
+    if t < start {
+        return false;
+    }
+    if t + 1 == due {
+        return after < work;
+    }
+    false
+}
+
+// The flows whose packets are dropped in slot t, rising, as the first entries of an array; how many they are.
+pub fn drops(
+    count: usize,
+    t: u32,
+    start: &[u32; Flow::MOST],
+    due: &[u32; Flow::MOST],
+    sent: &[u8; Flow::MOST],
+    work: &[u8; Flow::MOST],
+    marked: &[u8; Flow::MOST],
+    out: &mut [u16; Flow::MOST],
+) -> usize
+    requires { ⌜ (count ≤ 64) × (t ≤ 4000000000) × (now out ≡ filled 64 0 []) ⌝ }
+    requires { ⌜ ((k : ℕ) → getD (now sent) k 0 + getD (now marked) k 0 ≤ 64) ⌝ }
+    ensures count { λ r. ⌜ r ≡ length (filterTo (droppedBy t (now (start .entry)) (now (due .entry)) (now (sent .entry)) (now (work .entry)) (now (marked .entry))) count) ⌝ }
+    ensures list { λ r. ⌜ now (out .exit) ≡ filled 64 0 (filterTo (droppedBy t (now (start .entry)) (now (due .entry)) (now (sent .entry)) (now (work .entry)) (now (marked .entry))) count) ⌝ }
+{
+    let mut n = 0;
+    let mut k = 0;
+    while k < count {
+        let after = sent[k] + marked[k];
+        if is_dropped(t, start[k], due[k], after, work[k]) {
+            out[n] = k as u16;
+            n += 1;
+            k += 1;
+        } else {
+            k += 1;
+        }
+    }
+    n
+}
+
+// Each flow's next count: one more where it was placed.
+pub fn advance(count: usize, marked: &[u8; Flow::MOST], sent: &mut [u8; Flow::MOST])
+    requires { ⌜ (count ≤ 64) × (length (now sent) ≡ 64) × ((k : ℕ) → getD (now sent) k 0 + getD (now marked) k 0 ≤ 64) ⌝ }
+    ensures { λ r. ⌜ Through (λ k. getD (now (sent .entry)) k 0 + getD (now (marked .entry)) k 0) count (now (sent .entry)) (now (sent .exit)) ⌝ }
+{
+    let mut k = 0;
+    while k < count {
+        let n = sent[k];
+        let one = marked[k];
+        sent[k] = n + one;
+        k += 1;
+    }
+}

@@ -1,0 +1,141 @@
+// A run of an accepted set from the fresh state.
+ghost use mathlib.Core.Path.{_≡_};
+ghost use mathlib.Core.Bool.{true};
+ghost use Prim.Native.Nat.{ℕ, _≤_, min};
+ghost use lib.ListN.{length};
+ghost use Rattle.model.specs.Refusals.{good};
+ghost use Rattle.model.specs.Reader.{recordFault};
+ghost use Rattle.model.specs.Sets.{used};
+ghost use Rattle.model.specs.Machine.{runOf};
+ghost use Rattle.machinery.specs.Links.{Routes};
+ghost use Rattle.machinery.specs.Slots.{Prepared};
+use model::ChannelMap;
+use model::Fault;
+use model::Flow;
+use model::FlowSet;
+use model::Ran;
+use model::Slot;
+use model::State;
+use release::Awaited;
+use release::turn;
+use table::dues;
+use tally::Slotted;
+use tally::count_slot;
+
+// A budget goes as far as the last slot.
+fn slots_of(budget: u32) -> u32
+    ensures { λ r. ⌜ r ≡ min budget 4000000000 ⌝ }
+{
+    if budget <= State::LAST {
+        budget
+    } else {
+        State::LAST
+    }
+}
+
+// The run of an accepted set whose numbers are in arrays. A slot without a ready packet sends, delivers and drops nothing, and until the next
+// release the same holds of the slots after it.
+fn run_slots(
+    s: FlowSet,
+    fault: Fault,
+    slots: u32,
+    start: &[u32; Flow::MOST],
+    period: &[u32; Flow::MOST],
+    deadline: &[u32; Flow::MOST],
+    work: &[u8; Flow::MOST],
+    tries: &[u16; Flow::MOST],
+    routes: &[[u16; Flow::MOST_NODES]; Flow::MOST],
+) -> Ran
+    requires { ⌜ Prepared s (now start) (now period) (now deadline) (now work) × Routes s (now tries) (now routes) × (fault ≡ recordFault (used s)) × (slots ≤ 4000000000) × (length (now start) ≡ 64) ⌝ }
+    ensures { λ r. ⌜ r ≡ runOf (used s) slots ⌝ }
+{
+    let map = s.map;
+    let ways = map.ways() as usize;
+    let mut due = [0u32; Flow::MOST];
+    dues(s.count as usize, 0, start, period, deadline, &mut due);
+    let mut next = *start;
+    let mut sent = [0u8; Flow::MOST];
+    let mut order = [0usize; Flow::MOST];
+    let mut soonest = 0;
+    let mut lined = 0;
+    let mut delivered: u64 = 0;
+    let mut dropped: u64 = 0;
+    let mut t = 0;
+    while t < slots {
+        let count = s.count as usize;
+        let at = turn(
+            count,
+            t,
+            start,
+            period,
+            deadline,
+            work,
+            soonest,
+            lined,
+            &mut due,
+            &mut next,
+            &mut sent,
+            &mut order,
+        );
+        soonest = at.soonest;
+        lined = at.lined;
+        if lined == 0 {
+            t += 1;
+        } else {
+            let got = count_slot(
+                count,
+                ways,
+                t,
+                start,
+                &due,
+                work,
+                tries,
+                routes,
+                &order,
+                lined,
+                &mut sent,
+            );
+            lined = got.lined;
+            delivered += got.delivered as u64;
+            dropped += got.dropped as u64;
+            t += 1;
+        }
+    }
+    let last = State {
+        slot: Slot(t),
+        sent,
+    };
+    Ran {
+        fault,
+        last,
+        delivered,
+        dropped,
+    }
+}
+
+// The run of an accepted set.
+pub fn run_accepted(s: FlowSet, fault: Fault, budget: u32) -> Ran
+    requires { ⌜ (good (recordFault (used s) .refusal) ≡ true) × (fault ≡ recordFault (used s)) ⌝ }
+    ensures { λ r. ⌜ r ≡ runOf (used s) budget ⌝ }
+{
+    let mut start = [0u32; Flow::MOST];
+    let mut period = [0u32; Flow::MOST];
+    let mut deadline = [0u32; Flow::MOST];
+    let mut work = [0u8; Flow::MOST];
+    let mut tries = [0u16; Flow::MOST];
+    let mut routes = [[0u16; Flow::MOST_NODES]; Flow::MOST];
+    table::tables(s, &mut start, &mut period, &mut deadline, &mut work);
+    table::routes(s, &mut tries, &mut routes);
+    let slots = slots_of(budget);
+    run_slots(
+        s,
+        fault,
+        slots,
+        &start,
+        &period,
+        &deadline,
+        &work,
+        &tries,
+        &routes,
+    )
+}
