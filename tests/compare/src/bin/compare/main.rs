@@ -196,6 +196,9 @@ fn named(tally: &mut Tally) {
         ("deadline one above the period", one(line(50, 51, 2)), 5),
         ("17 nodes", one(line(50, 50, 17)), 0),
         ("18 nodes", one(line(50, 50, 18)), 7),
+        ("32,000 nodes", one(line(99, 99, 32_000)), 7),
+        ("32,000 nodes and a bad number", one(line(99, 99, 32_000)).replace("\t31999\n", "\tx\n"), 1),
+        ("32,000 nodes and no LF", one(line(99, 99, 32_000)).trim_end().to_string(), 1),
         ("07", "set\t07\n".to_string(), 1),
         ("a missing last LF", "set\t7".to_string(), 1),
     ];

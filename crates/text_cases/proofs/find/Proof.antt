@@ -3,8 +3,8 @@ use mathlib.Core.Path.{_≡_}
 use Prim.Native.Nat.{_≤_, _-_}
 use lib.ListN.{length}
 use borrow.Author.Needs.{needs}
-use Rattle.text_cases.proofs.table.find.Statement.{statement}
-use Rattle.text_cases.proofs.table.find.Tie as tie
+use Rattle.text_cases.proofs.find.Statement.{statement}
+use Rattle.text_cases.proofs.find.Tie as tie
 
 abbrev Inv-loop : tie.InvT-loop
 Inv-loop s from b i₀ i = (from ≤ i) × (i ≤ length s)
