@@ -23,7 +23,7 @@ value-requires : tie.Need-value-requires Inv-loop μ-loop
 value-requires c κs =
     let b = c .before .before in
     let h = c .loop-test .taken in
-    ((omega arith, b .pre .0 .1), b .pre .1 _ (c .before .loop .j) h)
+    ((omega arith, b .pre .0 .1), b .pre .1 _ _ (omega arith))
 
 mul-out : tie.Need-mul-out Inv-loop μ-loop
 mul-out c = search needs
