@@ -2,7 +2,7 @@
 use mathlib.Core.Path.{_≡_, refl, sym, ap, _∙_}
 use mathlib.Core.Bool.{Bool, true, false, _||_}
 use mathlib.Core.List.{List, [], _∷_}
-use Prim.Native.Nat.{ℕ, zero, suc, _+_, _%_, _≤_, _<_}
+use Prim.Native.Nat.{ℕ, zero, suc, _+_, _*_, _%_, _≤_, _<_}
 use native.Mathlib.Nat.{add-zero}
 use native.Mathlib.Numerals.{add-one}
 use native.Mathlib.Omega.{arith}
@@ -11,9 +11,12 @@ use lib.Dec.{eqb}
 use native.Mathlib.Decide.{decLe, ℕ-discrete}
 use lib.ListN.{length, getD, take, drop, set, drop-of-length-le, length-take, length-set}
 use lib.Seq.{drop-cons, getD-take, length-take-le, getD-set-same, getD-set-other}
-use Rattle.model.specs.Sums.{anyTo}
-use Rattle.model.specs.Sets.{anyOf, memb, meet}
-use Rattle.conflict.specs.Marks.{Marked}
+use Rattle.model.specs.declared.kinds.Flow.{Flow}
+use Rattle.model.specs.Sums.{bit, sumTo, anyTo}
+use Rattle.model.specs.Sets.{anyOf, memb, meet, exact}
+use Rattle.model.specs.Delay.{links, touches, conflictWork}
+use Rattle.laws.specs.Sums.{sum-ext}
+use Rattle.conflict.specs.Marks.{Marked, endOn, endsOn}
 
 -- a node that is none of the first n is not found among them
 pub memb-none : (x n : ℕ) (r : List ℕ) → ((j : ℕ) → j < n → x ≡ getD r j 0 → ⊥) → memb x (take n r) ≡ false
@@ -71,3 +74,12 @@ marked-next m r j k =
 
 pub marked-fewer : (m r : List ℕ) (n j : ℕ) → n ≤ j → Marked m r j → Marked m r n
 marked-fewer m r n j h k = record { whole = k .whole; mark = λ i l. k .mark i (omega arith) }
+
+-- the ends that are on a route are the definition's links that touch it
+pub work-ends : (k l : Flow) → l .nodes ≤ length (l .route) → (x : ℕ) → x ≡ endsOn (l .route) (take (k .nodes) (k .route)) (links l)
+    → l .tries * x ≡ conflictWork (exact k) (exact l)
+unfolding conflictWork endsOn
+work-ends k l h x e =
+    ap (λ (y : ℕ). l .tries * y)
+    (e ∙ sum-ext (λ i. bit (endOn (l .route) (exact k .route) i)) (λ i. bit (touches (exact k) (exact l) i)) (links l)
+    (λ i b. ap bit (sym (meet-ends (l .route) (l .nodes) h i (omega arith) (exact k .route)))))

@@ -1,62 +1,63 @@
 // S of document 01's delay tests: how much of one flow's work meets another's route.
 ghost use mathlib.Core.Path.{_≡_};
-ghost use Prim.Native.Nat.{_+_, _≤_, _<_};
-ghost use lib.ListN.{length, drop};
-ghost use Rattle.model.specs.Sums.{bit, sumTo};
-ghost use Rattle.model.specs.Sets.{memb, exact, used};
-ghost use Rattle.model.specs.Delay.{links, touches, conflictWork};
+ghost use Prim.Native.Nat.{_*_, _≤_, _<_};
+ghost use lib.ListN.{length, take};
+ghost use Rattle.model.specs.Sums.{bit};
+ghost use Rattle.model.specs.Sets.{used};
 ghost use Rattle.laws.specs.Accepted.{Accepted};
 ghost use Rattle.conflict.specs.Grid.{conflictOf, RowsTo, RowDone};
-ghost use Rattle.conflict.specs.Marks.{Marked};
+ghost use Rattle.conflict.specs.Marks.{Marked, SearchFrom, endOn, endsOn};
 use model::Flow;
 use model::FlowSet;
 
 // How many pairs of flows a set can have: row k, column l of a grid is at k times the most flows, plus l.
 pub const PAIRS: usize = Flow::MOST * Flow::MOST;
 
-// Which remainders modulo 256 the nodes of a route have. A node whose remainder is not marked is not on the route.
-fn marks(f: Flow) -> [u8; 256]
-    requires { ⌜ f .nodes ≤ 17 ⌝ }
-    ensures { λ r. ⌜ Marked r (f .route) (f .nodes) ⌝ }
+// Which remainders modulo 256 the first n nodes of a route have. A node whose remainder is not marked is none of them.
+fn marks(n: usize, route: &[u16; Flow::MOST_NODES]) -> [u8; 256]
+    requires { ⌜ n ≤ 17 ⌝ }
+    ensures { λ r. ⌜ Marked r (now (route .entry)) n ⌝ }
 {
     let mut m = [0u8; 256];
-    let n = f.nodes as usize;
     let mut j: usize = 0;
     while j < n {
-        let at = (f.route[j] % 256) as usize;
+        let at = (route[j] % 256) as usize;
         m[at] = 1;
         j += 1;
     }
     m
 }
 
-// From which place on a route is to be searched for a node: none is left where the marks say that it is not there.
-fn search_from(f: Flow, m: &[u8; 256], node: u16) -> usize
-    requires { ⌜ Marked (now m) (f .route) (f .nodes) ⌝ }
-    ensures { λ r. ⌜ memb node (drop r (exact f .route)) ≡ memb node (exact f .route) ⌝ }
+// From which place on a route of n nodes with these marks is to be searched for a node: none is left where it is not marked.
+fn search_from(n: usize, m: &[u8; 256], node: u16) -> usize
+    ensures { λ r. ⌜ SearchFrom (now (m .entry)) n node r ⌝ }
 {
     let at = (node % 256) as usize;
     if m[at] == 0 {
-        return f.nodes as usize;
+        return n;
     }
     0
 }
 
-// Whether link i of l has an end on k's route: one common node is enough, and the search of the two routes ends there.
-fn touches(k: Flow, l: Flow, i: usize, m: &[u8; 256]) -> bool
-    requires { ⌜ (k .nodes ≤ 17) × (l .nodes ≤ 17) × (i + 1 < l .nodes) ⌝ }
-    requires { ⌜ Marked (now m) (k .route) (k .nodes) ⌝ }
-    ensures { λ r. ⌜ r ≡ touches (exact k) (exact l) i ⌝ }
+// Whether link i of the other route has an end on mine: one common node is enough, and the search of the two routes ends there.
+fn touches(
+    n: usize,
+    mine: &[u16; Flow::MOST_NODES],
+    other: &[u16; Flow::MOST_NODES],
+    i: usize,
+    m: &[u8; 256],
+) -> bool
+    requires { ⌜ (n ≤ 17) × (i < 16) × (length (now mine) ≡ 17) × Marked (now m) (now mine) n ⌝ }
+    ensures { λ r. ⌜ r ≡ endOn (now (other .entry)) (take n (now (mine .entry))) i ⌝ }
 {
-    let n = k.nodes as usize;
     let mut found = false;
     let mut e: usize = 0;
     'ends: while e < 2 {
         let at = i + e;
-        let node = l.route[at];
-        let mut j = search_from(k, m, node);
+        let node = other[at];
+        let mut j = search_from(n, m, node);
         while j < n {
-            if node == k.route[j] {
+            if node == mine[j] {
                 found = true;
                 break 'ends;
             }
@@ -74,29 +75,39 @@ fn one_if(test: bool) -> u16
     if test { 1 } else { 0 }
 }
 
-// How many of l's links have an end on k's route.
-fn links_touched(k: Flow, l: Flow, m: &[u8; 256]) -> u16
-    requires { ⌜ (k .nodes ≤ 17) × (l .nodes ≤ 17) ⌝ }
-    requires { ⌜ Marked (now m) (k .route) (k .nodes) ⌝ }
-    ensures { λ r. ⌜ (r ≡ sumTo (λ i. bit (touches (exact k) (exact l) i)) (links l)) × (r ≤ 16) ⌝ }
+// How many of the other route's links have an end on mine.
+fn links_touched(
+    n: usize,
+    mine: &[u16; Flow::MOST_NODES],
+    links: usize,
+    other: &[u16; Flow::MOST_NODES],
+    m: &[u8; 256],
+) -> u16
+    requires { ⌜ (n ≤ 17) × (links ≤ 16) × (length (now mine) ≡ 17) × Marked (now m) (now mine) n ⌝ }
+    ensures { λ r. ⌜ (r ≡ endsOn (now (other .entry)) (take n (now (mine .entry))) links) × (r ≤ 16) ⌝ }
 {
-    let n = l.links() as usize;
     let mut touched: u16 = 0;
     let mut i: usize = 0;
-    while i < n {
-        touched += one_if(touches(k, l, i, m));
+    while i < links {
+        touched += one_if(touches(n, mine, other, i, m));
         i += 1;
     }
     touched
 }
 
-// S: κ of l times that number.
-fn conflict_work(k: Flow, l: Flow, m: &[u8; 256]) -> u16
-    requires { ⌜ (k .nodes ≤ 17) × (l .nodes ≤ 17) × (l .tries ≤ 4) ⌝ }
-    requires { ⌜ Marked (now m) (k .route) (k .nodes) ⌝ }
-    ensures { λ r. ⌜ (r ≡ conflictWork (exact k) (exact l)) × (r ≤ 64) ⌝ }
+// κ times such a number.
+fn times(tries: u16, count: u16) -> u16
+    requires { ⌜ (tries ≤ 4) × (count ≤ 16) ⌝ }
+    ensures { λ r. ⌜ r ≡ tries * count ⌝ }
 {
-    l.tries * links_touched(k, l, m)
+    tries * count
+}
+
+// A flow's route: an array of as many places as a route can have.
+fn route(f: Flow) -> [u16; Flow::MOST_NODES]
+    ensures { λ r. ⌜ (r ≡ f .route) × (length r ≡ 17) ⌝ }
+{
+    f.route
 }
 
 // S of flow k and every other.
@@ -106,12 +117,16 @@ fn conflict_row(s: FlowSet, k: usize, t: &mut [u16; PAIRS])
     ensures { λ r. ⌜ RowDone (conflictOf (used s) k) (s .count) k (now (t .entry)) (now (t .exit)) ⌝ }
 {
     let me = s.flows[k];
-    let m = marks(me);
+    let mine = route(me);
+    let nodes = me.nodes as usize;
+    let m = marks(nodes, &mine);
     let n = s.count as usize;
     let mut l: usize = 0;
     while l < n {
-        let other = s.flows[l];
-        t[k * Flow::MOST + l] = conflict_work(me, other, &m);
+        let f = s.flows[l];
+        let other = route(f);
+        let links = f.links() as usize;
+        t[k * Flow::MOST + l] = times(f.tries, links_touched(nodes, &mine, links, &other, &m));
         l += 1;
     }
 }

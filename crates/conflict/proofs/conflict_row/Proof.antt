@@ -1,22 +1,26 @@
 -- `conflict_row`: the row's first l places hold S, and all else is as it was. Assumes nothing beyond its `requires`.
-use mathlib.Core.Path.{_≡_, sym, ap, ap₂, _∙_}
-use Prim.Native.Nat.{_-_, _≤_, _<_}
+use mathlib.Core.Path.{_≡_, refl, sym, ap, ap₂, _∙_}
+use mathlib.Core.List.{List}
+use Prim.Native.Nat.{ℕ, _*_, _-_, _≤_, _<_}
 use native.Mathlib.Omega.{arith}
-use Rattle.model.specs.Sets.{used}
-use Rattle.model.specs.Delay.{conflictWork}
+use lib.ListN.{length, take}
+use Rattle.model.specs.Sets.{flowAt, used}
+use Rattle.model.specs.Delay.{links, conflictWork}
 use Rattle.laws.specs.Used.{used-flow}
+use Rattle.conflict.specs.Marks.{endsOn}
 use Rattle.conflict.specs.Grid.{RowDone, conflictOf}
 use Rattle.conflict.proofs.Checked.{good-at, count-at}
 use Rattle.conflict.proofs.Fill.{row-start, row-next}
+use Rattle.conflict.proofs.Routes.{work-ends}
 use borrow.Author.Needs.{needs}
 use Rattle.conflict.proofs.conflict_row.Statement.{statement}
 use Rattle.conflict.proofs.conflict_row.Tie as tie
 
 abbrev Inv-loop : tie.InvT-loop
-Inv-loop k t₀ s me m n l₀ t l = (l ≤ n) × (n ≤ 64) × RowDone (conflictOf (used s) k) l k t₀ t
+Inv-loop k t₀ s mine nodes m n l₀ t l = (l ≤ n) × (n ≤ 64) × RowDone (conflictOf (used s) k) l k t₀ t
 
 abbrev μ-loop : tie.MeasureT-loop
-μ-loop k t₀ s me m n l₀ t l = n - l
+μ-loop k t₀ s mine nodes m n l₀ t l = n - l
 
 mul-me : tie.Need-mul-me Inv-loop μ-loop
 mul-me c = search needs
@@ -24,27 +28,55 @@ mul-me c = search needs
 element-copy-out-me : tie.Need-element-copy-out-me Inv-loop μ-loop
 element-copy-out-me c = omega (arith, count-at (c .args .t1) (c .pre .0))
 
+route-requires : tie.Need-route-requires Inv-loop μ-loop
+route-requires c κs = search needs
+
+cast-nodes : tie.Need-cast-nodes Inv-loop μ-loop
+cast-nodes c = search needs
+
 marks-requires : tie.Need-marks-requires Inv-loop μ-loop
-marks-requires c κs = good-at (c .before .args .t1) (c .before .pre .0) (c .before .args .k) (c .before .pre .1 .0) .nodes-le
+marks-requires c κs =
+    let b = c .before .before .before .before in
+    good-at (b .args .t1) (b .pre .0) (b .args .k) (b .pre .1 .0) .nodes-le
 
 cast-n : tie.Need-cast-n Inv-loop μ-loop
 cast-n c = search needs
 
 loop-holds : tie.Need-loop-holds Inv-loop μ-loop
-loop-holds c = (search needs, count-at (c .before .before .args .t1) (c .before .before .pre .0), row-start _ _ _ (c .before .before .pre .1 .1))
+loop-holds c =
+    let b = c .before .before .before .before .before in
+    (search needs, count-at (b .args .t1) (b .pre .0), row-start _ _ _ (b .pre .1 .1))
 
-mul-other : tie.Need-mul-other Inv-loop μ-loop
-mul-other c = search needs
+mul-f : tie.Need-mul-f Inv-loop μ-loop
+mul-f c = search needs
 
-element-copy-out-other : tie.Need-element-copy-out-other Inv-loop μ-loop
-element-copy-out-other c = search needs
+element-copy-out-f : tie.Need-element-copy-out-f Inv-loop μ-loop
+element-copy-out-f c = search needs
 
-conflict-work-requires : tie.Need-conflict-work-requires Inv-loop μ-loop
-conflict-work-requires c κs =
-    let b = c .before .before .before .before .before .before in
+route-requires-2 : tie.Need-route-requires-2 Inv-loop μ-loop
+route-requires-2 c κs = search needs
+
+links-requires : tie.Need-links-requires Inv-loop μ-loop
+links-requires c κs = search needs
+
+cast-links : tie.Need-cast-links Inv-loop μ-loop
+cast-links c = search needs
+
+links-touched-requires : tie.Need-links-touched-requires Inv-loop μ-loop
+links-touched-requires c κs =
+    let w = c .before .before .before .before .before .before .before in
+    let b = w .before .before .before .before .before .before in
     let mine = good-at (b .args .t1) (b .pre .0) (b .args .k) (b .pre .1 .0) in
-    let other = good-at (b .args .t1) (b .pre .0) (c .before .before .before .loop .l) (c .before .before .loop-test .taken) in
-    ((mine .nodes-le, other .nodes-le, other .tries-le), c .before .before .before .before .marks .ensures)
+    let other = good-at (b .args .t1) (b .pre .0) (w .loop .l) (c .before .before .before .before .before .before .loop-test .taken) in
+    let n = other .nodes-le in
+    (mine .nodes-le, omega (arith, c .before .before .before .links .ensures .0), w .before .before .before .before .route .ensures .1, w .before .marks .ensures)
+
+times-requires : tie.Need-times-requires Inv-loop μ-loop
+times-requires c κs =
+    let w = c .before .before .before .before .before .before .before .before in
+    let b = w .before .before .before .before .before .before in
+    let other = good-at (b .args .t1) (b .pre .0) (w .loop .l) (c .before .before .before .before .before .before .before .loop-test .taken) in
+    (other .tries-le, c .links-touched .ensures .1)
 
 mul-t : tie.Need-mul-t Inv-loop μ-loop
 mul-t c = search needs
@@ -66,18 +98,21 @@ loop-less c = search needs
 
 loop-again : tie.Need-loop-again Inv-loop μ-loop
 loop-again c =
-    let b = c .before .before .before .before .before .before .before in
-    let w = c .before .before .before .before .loop in
-    let l : w .l < b .args .t1 .count = c .before .before .before .loop-test .taken in
-    let e = ap₂ conflictWork (used-flow (b .args .t1) (b .args .k) (b .pre .1 .0)) (used-flow (b .args .t1) (w .l) l) in (
-      search needs,
-      search needs,
-      row-next _ (w .l) (b .args .k) _ _ _ (search needs) (search needs) (w .inv .2) (c .conflict-work .ensures .0 ∙ sym e),
-    )
+    let w = c .before .before .before .before .before .before .before .before .before in
+    let b = w .before .before .before .before .before .before in
+    let s = b .args .t1 in
+    let h = c .before .before .before .before .before .before .before .before .loop-test .taken in
+    let n = good-at s (b .pre .0) (w .loop .l) h .nodes-le in
+    let r = c .before .before .before .before .before .before .route2 .ensures in
+    let e = ap₂ conflictWork (used-flow s (b .args .k) (b .pre .1 .0)) (used-flow s (w .loop .l) h) in
+    let f : flowAt s (w .loop .l) .nodes ≤ length (flowAt s (w .loop .l) .route) = rw (← r .0) (omega (arith, n, r .1)) in
+    let x = work-ends (flowAt s (b .args .k)) (flowAt s (w .loop .l)) f _
+    (rw (r .0, w .before .before .before .before .route .ensures .0, c .before .before .before .before .before .links .ensures .0) at (c .before .links-touched .ensures .0)) in
+    (search needs, search needs, row-next _ (w .loop .l) (b .args .k) _ _ _ (omega arith) (omega arith) (w .loop .inv .2) (c .times .ensures ∙ x ∙ sym e))
 
 returns : tie.Need-returns Inv-loop μ-loop
 returns c =
-    let e : c .before .loop .l ≡ c .before .before .before .before .args .t1 .count = omega arith in
+    let e : c .before .loop .l ≡ c .before .before .before .before .before .before .before .args .t1 .count = omega arith in
     rw e at (c .before .loop .inv .2)
 
 pub conflict-row-spec : {M : Type 1} → statement M
@@ -88,12 +123,18 @@ conflict-row-spec =
     μ-loop
     mul-me
     element-copy-out-me
+    route-requires
+    cast-nodes
     marks-requires
     cast-n
     loop-holds
-    mul-other
-    element-copy-out-other
-    conflict-work-requires
+    mul-f
+    element-copy-out-f
+    route-requires-2
+    links-requires
+    cast-links
+    links-touched-requires
+    times-requires
     mul-t
     add-t
     mul-t-2

@@ -1,19 +1,16 @@
 -- `marks`: each node passed has its remainder marked, and no mark is ever taken back. Assumes nothing beyond its `requires`.
-use Rattle.conflict.proofs.Routes.{marked-next, marked-fewer}
 use Prim.Native.Nat.{_-_, _≤_}
 use Rattle.conflict.specs.Marks.{Marked}
+use Rattle.conflict.proofs.Routes.{marked-next, marked-fewer}
 use borrow.Author.Needs.{needs}
 use Rattle.conflict.proofs.marks.Statement.{statement}
 use Rattle.conflict.proofs.marks.Tie as tie
 
 abbrev Inv-loop : tie.InvT-loop
-Inv-loop f m₀ n j₀ m j = (n ≤ 17) × Marked m (f .route) j
+Inv-loop n route m₀ j₀ m j = (n ≤ 17) × Marked m route j
 
 abbrev μ-loop : tie.MeasureT-loop
-μ-loop f m₀ n j₀ m j = n - j
-
-cast-n : tie.Need-cast-n Inv-loop μ-loop
-cast-n c = search needs
+μ-loop n route m₀ j₀ m j = n - j
 
 loop-holds : tie.Need-loop-holds Inv-loop μ-loop
 loop-holds c = search needs
@@ -40,7 +37,7 @@ loop-again : tie.Need-loop-again Inv-loop μ-loop
 loop-again c = (search needs, marked-next _ _ (c .before .before .loop .j) (c .before .before .loop .inv .1))
 
 returns : tie.Need-returns Inv-loop μ-loop
-returns c = marked-fewer _ _ (c .before .before .args .t1 .nodes) (c .before .loop .j) (c .loop-test .left) (c .before .loop .inv .1)
+returns c = marked-fewer _ _ (c .before .before .args .n) (c .before .loop .j) (c .loop-test .left) (c .before .loop .inv .1)
 
 pub marks-spec : {M : Type 1} → statement M
 marks-spec =
@@ -48,7 +45,6 @@ marks-spec =
     (tie.spec
     Inv-loop
     μ-loop
-    cast-n
     loop-holds
     mul-at
     element-copy-out-at
