@@ -1,37 +1,19 @@
 // Rule 6: what a slot reports, its deliveries and its drops, and each flow's next count.
 ghost use mathlib.Core.Path.{_≡_};
-ghost use mathlib.Core.Bool.{_&&_};
 ghost use mathlib.Core.List.{[]};
 ghost use Prim.Native.Nat.{ℕ, _+_, _≤_};
-ghost use lib.Dec.{leb, ltb, eqb};
 ghost use lib.ListN.{getD, length};
 ghost use Rattle.model.specs.Sets.{filterTo};
 ghost use Rattle.model.specs.Machine.{filled, noDelivery};
 ghost use Rattle.machinery.specs.Lists.{Through};
-ghost use Rattle.machinery.specs.Answers.{deliveredBy, deliveriesBy, delayIn, droppedBy, Delayed};
+ghost use Rattle.machinery.specs.Answers.{deliveredBy, deliveriesBy, droppedBy, Delayed};
 use model::ChannelMap;
 use model::Delivery;
 use model::Flow;
 use model::Span;
-
-// Placed, and this was transmission C − 1.
-pub fn is_delivered(marked: u8, sent: u8, work: u8) -> bool
-    requires { ⌜ sent ≤ 64 ⌝ }
-    ensures { λ r. ⌜ r ≡ (eqb marked 1 && eqb (sent + 1) work) ⌝ }
-{
-    if marked == 1 {
-        return sent + 1 == work;
-    }
-    false
-}
-
-// The slots from a packet's release to t, both counted.
-fn delay_of(t: u32, due: u32, deadline: u32) -> Span
-    requires { ⌜ Delayed t due deadline ⌝ }
-    ensures { λ r. ⌜ r .0 ≡ delayIn t due deadline ⌝ }
-{
-    Span((t - (due - deadline) + 1) as u16)
-}
+use packet::delay_of;
+use packet::is_delivered;
+use packet::is_dropped;
 
 pub struct Delivered {
     pub count: u16,
@@ -78,20 +60,6 @@ pub fn deliveries(
         count: n as u16,
         list,
     }
-}
-
-// In the last slot before its absolute deadline, and still short after it.
-pub fn is_dropped(t: u32, start: u32, due: u32, after: u8, work: u8) -> bool
-    requires { ⌜ t ≤ 4000000000 ⌝ }
-    ensures { λ r. ⌜ r ≡ (leb start t && eqb (t + 1) due && ltb after work) ⌝ }
-{
-    if t < start {
-        return false;
-    }
-    if t + 1 == due {
-        return after < work;
-    }
-    false
 }
 
 // The flows whose packets are dropped in slot t, rising, as the first entries of an array; how many they are.

@@ -19,6 +19,7 @@ use model::State;
 use release::Awaited;
 use release::turn;
 use table::dues;
+use table::tables;
 use tally::Slotted;
 use tally::count_slot;
 
@@ -124,8 +125,15 @@ pub fn run_accepted(s: FlowSet, fault: Fault, budget: u32) -> Ran
     let mut work = [0u8; Flow::MOST];
     let mut tries = [0u16; Flow::MOST];
     let mut routes = [[0u16; Flow::MOST_NODES]; Flow::MOST];
-    table::tables(s, &mut start, &mut period, &mut deadline, &mut work);
-    table::routes(s, &mut tries, &mut routes);
+    tables(
+        s,
+        &mut start,
+        &mut period,
+        &mut deadline,
+        &mut work,
+        &mut tries,
+        &mut routes,
+    );
     let slots = slots_of(budget);
     run_slots(
         s,

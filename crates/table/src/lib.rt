@@ -12,34 +12,8 @@ ghost use Rattle.machinery.specs.Dues.{dueIn, hadIn};
 ghost use Rattle.machinery.specs.Links.{Routes};
 use model::Flow;
 use model::FlowSet;
-
-// An accepted set's starts, periods, deadlines and C, in the first entries of four arrays.
-pub fn tables(
-    s: FlowSet,
-    start: &mut [u32; Flow::MOST],
-    period: &mut [u32; Flow::MOST],
-    deadline: &mut [u32; Flow::MOST],
-    work: &mut [u8; Flow::MOST],
-)
-    requires { ⌜ good (recordFault (used s) .refusal) ≡ true ⌝ }
-    requires { ⌜ (length (now start) ≡ 64) × (length (now period) ≡ 64) × (length (now deadline) ≡ 64) × (length (now work) ≡ 64) ⌝ }
-    ensures starts { λ r. ⌜ Through (λ k. flowAt (used s) k .start) (s .count) (now (start .entry)) (now (start .exit)) ⌝ }
-    ensures periods { λ r. ⌜ Through (λ k. flowAt (used s) k .period .0) (s .count) (now (period .entry)) (now (period .exit)) ⌝ }
-    ensures deadlines { λ r. ⌜ Through (λ k. flowAt (used s) k .deadline .0) (s .count) (now (deadline .entry)) (now (deadline .exit)) ⌝ }
-    ensures works { λ r. ⌜ Through (λ k. workAt (used s) k) (s .count) (now (work .entry)) (now (work .exit)) ⌝ }
-    ensures small { λ r. ⌜ ((k : ℕ) → k < s .count → (getD (now (start .exit)) k 0 ≤ 65535) × (getD (now (period .exit)) k 0 ≤ 65535) × (getD (now (deadline .exit)) k 0 ≤ 65535)) ⌝ }
-{
-    let count = s.count as usize;
-    let mut k = 0;
-    while k < count {
-        let f = s.flows[k];
-        start[k] = f.start as u32;
-        period[k] = f.period.0 as u32;
-        deadline[k] = f.deadline.0 as u32;
-        work[k] = f.work() as u8;
-        k += 1;
-    }
-}
+use packet::due_of;
+use packet::had_of;
 
 // Flow k's tries and route put in their places. A record says nothing of its array's length, so it is said here.
 fn put_route(
@@ -58,34 +32,36 @@ fn put_route(
     routes[k] = route;
 }
 
-// An accepted set's tries and routes, in the first entries of two arrays.
-pub fn routes(
+// An accepted set's starts, periods, deadlines, C, tries and routes, in the first entries of six arrays.
+pub fn tables(
     s: FlowSet,
+    start: &mut [u32; Flow::MOST],
+    period: &mut [u32; Flow::MOST],
+    deadline: &mut [u32; Flow::MOST],
+    work: &mut [u8; Flow::MOST],
     tries: &mut [u16; Flow::MOST],
     routes: &mut [[u16; Flow::MOST_NODES]; Flow::MOST],
 )
     requires { ⌜ good (recordFault (used s) .refusal) ≡ true ⌝ }
-    requires { ⌜ (length (now tries) ≡ 64) × (length (now routes) ≡ 64) ⌝ }
-    ensures { λ r. ⌜ Routes s (now (tries .exit)) (now (routes .exit)) ⌝ }
+    requires { ⌜ (length (now start) ≡ 64) × (length (now period) ≡ 64) × (length (now deadline) ≡ 64) × (length (now work) ≡ 64) × (length (now tries) ≡ 64) × (length (now routes) ≡ 64) ⌝ }
+    ensures starts { λ r. ⌜ Through (λ k. flowAt (used s) k .start) (s .count) (now (start .entry)) (now (start .exit)) ⌝ }
+    ensures periods { λ r. ⌜ Through (λ k. flowAt (used s) k .period .0) (s .count) (now (period .entry)) (now (period .exit)) ⌝ }
+    ensures deadlines { λ r. ⌜ Through (λ k. flowAt (used s) k .deadline .0) (s .count) (now (deadline .entry)) (now (deadline .exit)) ⌝ }
+    ensures works { λ r. ⌜ Through (λ k. workAt (used s) k) (s .count) (now (work .entry)) (now (work .exit)) ⌝ }
+    ensures links { λ r. ⌜ Routes s (now (tries .exit)) (now (routes .exit)) ⌝ }
+    ensures small { λ r. ⌜ ((k : ℕ) → k < s .count → (getD (now (start .exit)) k 0 ≤ 65535) × (getD (now (period .exit)) k 0 ≤ 65535) × (getD (now (deadline .exit)) k 0 ≤ 65535)) ⌝ }
 {
     let count = s.count as usize;
     let mut k = 0;
     while k < count {
         let f = s.flows[k];
+        start[k] = f.start as u32;
+        period[k] = f.period.0 as u32;
+        deadline[k] = f.deadline.0 as u32;
+        work[k] = f.work() as u8;
         put_route(k, f, tries, routes);
         k += 1;
     }
-}
-
-// The absolute deadline of a flow's latest packet, or of its first one before that is released.
-fn due_of(start: u32, period: u32, deadline: u32, t: u32) -> u32
-    requires { ⌜ (0 < period) × (start ≤ 65535) × (deadline ≤ 65535) × (t ≤ 4000000000) ⌝ }
-    ensures { λ r. ⌜ r ≡ dueIn start period deadline t ⌝ }
-{
-    if t < start {
-        return start + deadline;
-    }
-    t - (t - start) % period + deadline
 }
 
 // Each flow's absolute deadline in slot t.
@@ -106,14 +82,6 @@ pub fn dues(
         due[k] = due_of(start[k], period[k], deadline[k], t);
         k += 1;
     }
-}
-
-// What a packet has had: nothing in its release slot, whatever the count says.
-fn had_of(due: u32, deadline: u32, t: u32, n: u8) -> u8
-    requires { ⌜ (deadline ≤ 65535) × (t ≤ 4000000000) ⌝ }
-    ensures { λ r. ⌜ r ≡ hadIn due deadline t n ⌝ }
-{
-    if t + deadline == due { 0 } else { n }
 }
 
 // Each flow's count, back at 0 in a release slot.

@@ -11,8 +11,8 @@ ghost use Rattle.machinery.specs.Runs.{Counted};
 use choice::choose;
 use model::ChannelMap;
 use model::Flow;
-use report::is_delivered;
-use report::is_dropped;
+use packet::is_delivered;
+use packet::is_dropped;
 
 // One where it is so.
 fn one_if(so: bool) -> u32
