@@ -2,11 +2,17 @@
 // was lent with the same contents ends with the same contents. That is proved from the contracts alone, since nothing else is seen
 // from here. Here: what C and the plan program call.
 ghost use mathlib.Core.Path.{_≡_};
+ghost use Rattle.model.specs.Reader.{recordFault};
+ghost use Rattle.model.specs.Refusals.{noFault};
+ghost use Rattle.model.specs.Sets.{used};
+use model::FlowSet;
 use model::Reading;
 use model::Written;
 use planner::BoundsAnswer;
 use planner::SlotAnswer;
 use planner::VerdictAnswer;
+
+pub struct TwoPlaces(pub usize, pub usize);
 
 pub struct TwoWritten(pub Written, pub Written);
 
@@ -15,6 +21,15 @@ pub struct TwoVerdictAnswer(pub VerdictAnswer, pub VerdictAnswer);
 pub struct TwoBoundsAnswer(pub BoundsAnswer, pub BoundsAnswer);
 
 pub struct TwoSlotAnswer(pub SlotAnswer, pub SlotAnswer);
+
+pub fn put_plan(s: FlowSet, x: &mut [u8], y: &mut [u8]) -> TwoPlaces
+    requires { ⌜ recordFault (used s) ≡ noFault ⌝ }
+    ensures { λ r. ⌜ ((now (x .entry) ≡ now (y .entry)) → ((r .0 ≡ r .1) × (now (x .exit) ≡ now (y .exit)))) ⌝ }
+{
+    let a = plan_lines::put_plan(x, s);
+    let b = plan_lines::put_plan(y, s);
+    TwoPlaces(a, b)
+}
 
 pub fn plan(input: &[u8], x: &mut [u8], y: &mut [u8]) -> TwoWritten
     ensures { λ r. ⌜ ((now (x .entry) ≡ now (y .entry)) → ((r .0 ≡ r .1) × (now (x .exit) ≡ now (y .exit)))) ⌝ }

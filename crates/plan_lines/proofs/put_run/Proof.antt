@@ -6,10 +6,10 @@ use Rattle.model.specs.Sets.{used}
 use Rattle.model.specs.Machine.{stepOf, runOf}
 use Rattle.model.specs.Program.{runLines}
 use Rattle.puts.specs.Stores.{Putting, putting-start, putting-more, putting-done}
-use Rattle.plan_text.proofs.Planning.{run-more, run-last}
+use Rattle.plan_lines.proofs.Planning.{run-more, run-last}
 use borrow.Author.Needs.{needs}
-use Rattle.plan_text.proofs.put_run.Statement.{statement}
-use Rattle.plan_text.proofs.put_run.Tie as tie
+use Rattle.plan_lines.proofs.put_run.Statement.{statement}
+use Rattle.plan_lines.proofs.put_run.Tie as tie
 
 abbrev Inv-loop : tie.InvT-loop
 Inv-loop out₀ at s st₀ place₀ t₀ out st place t = (st ≡ runOf (used s) t .last) × Putting out₀ at (runLines (used s)) 12 out place t
