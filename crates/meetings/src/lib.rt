@@ -1,60 +1,15 @@
 // S of document 01's delay tests for every pair of flows: a search of routes where the flows are few, an index of nodes where they are many.
 ghost use mathlib.Core.Path.{_≡_};
-ghost use Prim.Native.Nat.{ℕ, _+_, _*_, _-_, _≤_, _<_, max};
+ghost use Prim.Native.Nat.{ℕ, _*_, _-_, _≤_, _<_};
 ghost use lib.ListN.{length, getD};
 ghost use Rattle.model.specs.Sets.{used};
 ghost use Rattle.laws.specs.Accepted.{Accepted};
 ghost use Rattle.conflict.specs.Grid.{conflictOf, RowsTo};
 ghost use Rattle.index.specs.Index.{Placed, PlacedTo, UsersTo};
-ghost use Rattle.meetings.specs.Columns.{Added, metTo, Met, ColumnDone, ColumnsTo};
+ghost use Rattle.meetings.specs.Columns.{ColumnDone};
+ghost use Rattle.links.specs.Met.{metTo};
 use model::Flow;
 use model::FlowSet;
-
-// The larger of two marks: an end of a link is enough.
-fn larger(a: u8, b: u8) -> u8
-    ensures { λ r. ⌜ r ≡ max a b ⌝ }
-{
-    if a < b { b } else { a }
-}
-
-// One more for each flow whose route has an end of a link, the ends' rows being a and b.
-fn add_link(a: usize, b: usize, users: &[u8; index::USERS], touched: &mut [u8; Flow::MOST])
-    requires { ⌜ (a ≤ 1088) × (b ≤ 1088) × (length (now touched) ≡ 64) ⌝ }
-    requires { ⌜ ((i : ℕ) → getD (now users) i 0 ≤ 1) × ((k : ℕ) → getD (now touched) k 0 ≤ 16) ⌝ }
-    ensures { λ r. ⌜ Added (now (users .entry)) a b 64 (now (touched .entry)) (now (touched .exit)) ⌝ }
-{
-    let first = a * Flow::MOST;
-    let second = b * Flow::MOST;
-    let mut k: usize = 0;
-    while k < Flow::MOST {
-        let old = touched[k];
-        touched[k] = old + larger(users[first + k], users[second + k]);
-        k += 1;
-    }
-}
-
-// For each flow, how many of l's links have an end on its route.
-fn touch(
-    l: Flow,
-    rows: &[u16; index::NODES],
-    users: &[u8; index::USERS],
-    touched: &mut [u8; Flow::MOST],
-)
-    requires { ⌜ (2 ≤ l .nodes) × (l .nodes ≤ 17) × Placed (now rows) 1088 × ((i : ℕ) → getD (now users) i 0 ≤ 1) ⌝ }
-    requires { ⌜ Met (now rows) (now users) (l .route) 0 (now touched) ⌝ }
-    ensures { λ r. ⌜ Met (now (rows .entry)) (now (users .entry)) (l .route) (l .nodes - 1) (now (touched .exit)) × (length (l .route) ≡ 17) ⌝ }
-{
-    let n = l.links() as usize;
-    let mut i: usize = 0;
-    while i < n {
-        let from = index::wide(l.route[i]);
-        let to = index::wide(l.route[i + 1]);
-        let a = index::wide(rows[from]);
-        let b = index::wide(rows[to]);
-        add_link(a, b, users, touched);
-        i += 1;
-    }
-}
 
 // S of the first n flows and l: κ of l times these numbers.
 fn put_column(
@@ -97,7 +52,7 @@ fn meet(
     ensures { λ r. ⌜ length (l .route) ≡ 17 ⌝ }
 {
     let mut touched = [0u8; Flow::MOST];
-    touch(l, rows, users, &mut touched);
+    links::touch(l, rows, users, &mut touched);
     put_column(n, at, l.tries, &touched, t);
 }
 
@@ -134,7 +89,7 @@ fn many(s: FlowSet, t: &mut [u16; conflict::PAIRS])
 }
 
 // How many flows make the index worth its making.
-const MANY: u16 = 13;
+const MANY: u16 = 10;
 
 // S of every pair. Both ways give the same numbers; which is faster depends on the number of flows.
 pub fn conflicts(s: FlowSet, t: &mut [u16; conflict::PAIRS])

@@ -4,78 +4,12 @@ ghost use Prim.Native.Nat.{ℕ, _*_, _/_, _%_, _≤_, _<_};
 ghost use lib.ListN.{length, getD, replicate};
 ghost use Rattle.model.specs.Sums.{sumTo};
 ghost use Rattle.model.specs.Sets.{used};
-ghost use Rattle.model.specs.Delay.{period, deadline, workAt};
 ghost use Rattle.laws.specs.Accepted.{Accepted};
 ghost use Rattle.conflict.specs.Grid.{pairAt, ofOther, RowDone};
 ghost use Rattle.shares.specs.Tables.{tablesOf, blankTables, Tabled};
-ghost use Rattle.shares.specs.Rows.{NumbersTo, Short, wholeRow, SmallRow, Divided, RowsDone};
+ghost use Rattle.shares.specs.Rows.{Short, wholeRow, SmallRow, RowsDone};
 use model::Flow;
 use model::FlowSet;
-
-// A 16-bit number, with the bound that it has by its width.
-fn bounded(x: u16) -> u16
-    ensures { λ r. ⌜ (r ≡ x) × (r ≤ 65535) ⌝ }
-{
-    x
-}
-
-// T, D and C of every flow.
-fn numbers(
-    s: FlowSet,
-    period: &mut [u16; Flow::MOST],
-    deadline: &mut [u16; Flow::MOST],
-    work: &mut [u16; Flow::MOST],
-)
-    requires { ⌜ Accepted (used s) × NumbersTo (used s) 0 (now period) (now deadline) (now work) ⌝ }
-    ensures { λ r. ⌜ NumbersTo (used s) (s .count) (now (period .exit)) (now (deadline .exit)) (now (work .exit)) ⌝ }
-{
-    let n = s.count as usize;
-    let mut k: usize = 0;
-    while k < n {
-        let f = s.flows[k];
-        period[k] = f.period.0;
-        deadline[k] = bounded(f.deadline.0);
-        work[k] = f.work() as u16;
-        k += 1;
-    }
-}
-
-// q: how many whole periods a deadline has.
-fn quotient(deadline: u16, period: u16) -> u16
-    requires { ⌜ (0 < deadline) × (0 < period) ⌝ }
-    ensures { λ r. ⌜ r ≡ deadline / period ⌝ }
-{
-    deadline / period
-}
-
-// r: what is left of it.
-fn left_over(deadline: u16, period: u16) -> u16
-    requires { ⌜ (0 < deadline) × (0 < period) ⌝ }
-    ensures { λ r. ⌜ r ≡ deadline % period ⌝ }
-{
-    deadline % period
-}
-
-// q and r of a deadline and the first n periods, r in row k.
-fn divide(
-    k: usize,
-    n: usize,
-    deadline: u16,
-    period: &[u16; Flow::MOST],
-    q: &mut [u16; Flow::MOST],
-    remainder: &mut [u16; conflict::PAIRS],
-)
-    requires { ⌜ (k < n) × (n ≤ 64) × (0 < deadline) × ((l : ℕ) → l < n → 0 < getD (now period) l 0) ⌝ }
-    requires { ⌜ (length (now q) ≡ 64) × (length (now remainder) ≡ 4096) ⌝ }
-    ensures { λ r. ⌜ Divided k n deadline (now (period .entry)) (now (q .entry)) (now (q .exit)) (now (remainder .entry)) (now (remainder .exit)) ⌝ }
-{
-    let mut l: usize = 0;
-    while l < n {
-        q[l] = quotient(deadline, period[l]);
-        remainder[k * Flow::MOST + l] = left_over(deadline, period[l]);
-        l += 1;
-    }
-}
 
 // A whole number of packets' transmissions.
 fn times(q: u16, count: u16) -> u32
@@ -106,7 +40,7 @@ fn whole_of(
     let mut w: u32 = 0;
     let mut l: usize = 0;
     while l < Flow::MOST {
-        let packets = bounded(q[l]);
+        let packets = division::bounded(q[l]);
         x += times(packets, conflict[k * Flow::MOST + l]);
         w += times(packets, work[l]);
         l += 1;
@@ -134,7 +68,7 @@ fn row<'a>(
     ensures { λ r. ⌜ r .conflict ≡ wholeRow deadline (now (period .entry)) n k (λ l. pairAt (now (conflict .entry)) k l) ⌝ }
     ensures { λ r. ⌜ (r .work ≡ wholeRow deadline (now (period .entry)) n k (λ l. getD (now (work .entry)) l 0)) × (r .work ≤ 268431360) ⌝ }
 {
-    divide(k, n, deadline, period, q, remainder);
+    division::divide(k, n, deadline, period, q, remainder);
     q[k] = 0;
     remainder[k * Flow::MOST + k] = 0;
     whole_of(k, conflict, work, q)
@@ -180,7 +114,7 @@ pub fn tabulate(
     ensures { λ r. ⌜ Tabled (used s) (tablesOf (now (conflict .exit)) (now (remainder .exit)) (now (work .exit)) (now (deadline .exit)) (now («whole_conflict» .exit)) (now («whole_work» .exit))) ⌝ }
 {
     let mut period = [0u16; Flow::MOST];
-    numbers(s, &mut period, deadline, work);
+    division::numbers(s, &mut period, deadline, work);
     meetings::conflicts(s, conflict);
     rows(
         s.count as usize,

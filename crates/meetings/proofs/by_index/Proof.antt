@@ -6,7 +6,7 @@ use Rattle.model.specs.Sets.{flowAt, used}
 use Rattle.conflict.specs.Grid.{conflictOf}
 use Rattle.conflict.proofs.Checked.{good-at, count-at}
 use Rattle.index.proofs.Places.{placed-all}
-use Rattle.meetings.specs.Columns.{metTo, ColumnsTo}
+use Rattle.meetings.specs.Columns.{ColumnsTo}
 use Rattle.meetings.proofs.Links.{columns-start, columns-next, columns-rows, column-ext, work-met}
 use borrow.Author.Needs.{needs}
 use Rattle.meetings.proofs.by_index.Statement.{statement}

@@ -9,11 +9,11 @@ use Rattle.model.specs.Sets.{used}
 use Rattle.model.specs.Delay.{work}
 use Rattle.laws.specs.Used.{used-flow}
 use Rattle.conflict.proofs.Checked.{good-at, count-at, work-small}
-use Rattle.shares.specs.Rows.{NumbersTo}
-use Rattle.shares.proofs.Terms.{numbers-next}
+use Rattle.division.specs.Divided.{NumbersTo}
+use Rattle.division.proofs.Parts.{numbers-next}
 use borrow.Author.Needs.{needs}
-use Rattle.shares.proofs.numbers.Statement.{statement}
-use Rattle.shares.proofs.numbers.Tie as tie
+use Rattle.division.proofs.numbers.Statement.{statement}
+use Rattle.division.proofs.numbers.Tie as tie
 
 abbrev Inv-loop : tie.InvT-loop
 Inv-loop period₀ deadline₀ work₀ s n k₀ period deadline work k = (k ≤ n) × (n ≤ 64) × NumbersTo (used s) k period deadline work

@@ -2,11 +2,11 @@
 use mathlib.Core.Path.{_≡_}
 use Prim.Native.Nat.{ℕ, _-_, _≤_, _<_}
 use native.Mathlib.Omega.{arith}
-use Rattle.shares.specs.Rows.{Divided}
-use Rattle.shares.proofs.Terms.{divided-start, divided-next}
+use Rattle.division.specs.Divided.{Divided}
+use Rattle.division.proofs.Parts.{divided-start, divided-next}
 use borrow.Author.Needs.{needs}
-use Rattle.shares.proofs.divide.Statement.{statement}
-use Rattle.shares.proofs.divide.Tie as tie
+use Rattle.division.proofs.divide.Statement.{statement}
+use Rattle.division.proofs.divide.Tie as tie
 
 abbrev Inv-loop : tie.InvT-loop
 Inv-loop k n deadline period q₀ remainder₀ l₀ q remainder l = (l ≤ n) × Divided k l deadline period q₀ q remainder₀ remainder

@@ -5,11 +5,11 @@ use native.Mathlib.Nat.{le-trans}
 use native.Mathlib.Omega.{arith}
 use lib.ListN.{length, getD}
 use Rattle.model.specs.Delay.{links}
-use Rattle.meetings.specs.Columns.{Added, Met}
-use Rattle.meetings.proofs.Links.{met-next, met-small}
+use Rattle.links.specs.Met.{Added, Met}
+use Rattle.links.proofs.Counts.{met-next, met-small}
 use borrow.Author.Needs.{needs}
-use Rattle.meetings.proofs.touch.Statement.{statement}
-use Rattle.meetings.proofs.touch.Tie as tie
+use Rattle.links.proofs.touch.Statement.{statement}
+use Rattle.links.proofs.touch.Tie as tie
 
 abbrev Inv-loop : tie.InvT-loop
 Inv-loop rows users touched₀ l n i₀ touched i = (i ≤ n) × (n ≡ links l) × (length (l .route) ≡ 17) × Met rows users (l .route) i touched

@@ -1,7 +1,7 @@
 -- `larger`: each arm is the larger of the two. Assumes nothing beyond its `requires`.
 use borrow.Author.Needs.{needs}
-use Rattle.meetings.proofs.larger.Statement.{statement}
-use Rattle.meetings.proofs.larger.Tie as tie
+use Rattle.links.proofs.larger.Statement.{statement}
+use Rattle.links.proofs.larger.Tie as tie
 
 returns : tie.Need-returns
 returns c = search needs

@@ -1,7 +1,7 @@
 -- `left_over`: the code is the definition, and the divisor is not 0. Assumes nothing beyond its `requires`.
 use borrow.Author.Needs.{needs}
-use Rattle.shares.proofs.left_over.Statement.{statement}
-use Rattle.shares.proofs.left_over.Tie as tie
+use Rattle.division.proofs.left_over.Statement.{statement}
+use Rattle.division.proofs.left_over.Tie as tie
 
 rem-result : tie.Need-rem-result
 rem-result c = search needs

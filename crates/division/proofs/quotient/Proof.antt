@@ -1,7 +1,7 @@
 -- `quotient`: the code is the definition, and the divisor is not 0. Assumes nothing beyond its `requires`.
 use borrow.Author.Needs.{needs}
-use Rattle.shares.proofs.quotient.Statement.{statement}
-use Rattle.shares.proofs.quotient.Tie as tie
+use Rattle.division.proofs.quotient.Statement.{statement}
+use Rattle.division.proofs.quotient.Tie as tie
 
 div-result : tie.Need-div-result
 div-result c = search needs
