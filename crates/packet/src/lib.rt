@@ -12,7 +12,7 @@ pub fn due_of(start: u32, period: u32, deadline: u32, t: u32) -> u32
     requires { ⌜ (0 < period) × (start ≤ 65535) × (deadline ≤ 65535) × (t ≤ 4000000000) ⌝ }
     ensures { λ r. ⌜ r ≡ dueIn start period deadline t ⌝ }
 {
-    if t < start {
+    if start > t {
         return start + deadline;
     }
     t - (t - start) % period + deadline
