@@ -179,15 +179,13 @@ fn judge_by<'a>(
     whole_conflict: &'a [u32; Flow::MOST],
     whole_work: &'a [u32; Flow::MOST],
 ) -> Judged
-    requires { ⌜ Accepted (used s) ⌝ }
-    requires { ⌜ Tabled (used s) (tablesOf (now conflict) (now remainder) (now work) (now deadline) (now «whole_conflict») (now «whole_work»)) ⌝ }
+    requires { ⌜ Accepted (used s) × Tabled (used s) (tablesOf (now conflict) (now remainder) (now work) (now deadline) (now «whole_conflict») (now «whole_work»)) ⌝ }
     ensures { λ r. ⌜ JudgedAs (used s) (r .basic) (r .tightened) (r .rounds) ⌝ }
 {
-    let n = s.count as usize;
     let m = s.map.ways();
     let none = [0u16; Flow::MOST];
     let basic = values(
-        n,
+        s.count as usize,
         m,
         conflict,
         remainder,
@@ -208,7 +206,7 @@ fn judge_by<'a>(
     );
     let gone = end.gone;
     let tightened = values(
-        n,
+        s.count as usize,
         m,
         conflict,
         remainder,

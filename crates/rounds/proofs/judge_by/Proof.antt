@@ -13,7 +13,7 @@ use Rattle.rounds.proofs.judge_by.Tie as tie
 
 -- where the function began, and the tables that were lent
 abbrev start : (c : tie.After-ways) → tie.Start
-start c = c .before .before
+start c = c .before
 
 abbrev tables : (c : tie.Start) → Tables
 tables c =
@@ -28,37 +28,40 @@ asked c =
     let m : 0 < c .ways .result = omega (arith, ones-pos (b .args .s .map .0) (a .some-channel)) in
     ((a .count-le, m), fits-carried (used (b .args .s)) (a .count-le) (tables b) (b .pre .1))
 
-cast-n : tie.Need-cast-n
-cast-n c = search needs
+cast-values : tie.Need-cast-values
+cast-values c = search needs
+
+cast-values-2 : tie.Need-cast-values-2
+cast-values-2 c = search needs
 
 ways-requires : tie.Need-ways-requires
 ways-requires c κs = search needs
 
 values-requires : tie.Need-values-requires
 unfolding used
-values-requires c κs = asked (c .before)
+values-requires c κs = asked (c .before .before)
 
 rounds-requires : tie.Need-rounds-requires
 unfolding used
-rounds-requires c κs = (start (c .before .before) .pre .0, start (c .before .before) .pre .1)
+rounds-requires c κs = (start (c .before .before .before) .pre .0, start (c .before .before .before) .pre .1)
 
 values-requires-2 : tie.Need-values-requires-2
 unfolding used
-values-requires-2 c κs = asked (c .before .before .before .before .before)
+values-requires-2 c κs = asked (c .before .before .before .before .before .before .before)
 
 returns : tie.Need-returns
 unfolding used
 returns c =
-    let w = c .before .before .before .before .before .before in
+    let w = c .before .before .before .before .before .before .before .before in
     let b = start w in
     let u = used (b .args .s) in
     let t = tables b in
     let n = b .pre .0 .count-le in
     let o = b .pre .1 in
     let e = w .ways .ensures in
-    let r = c .before .before .before .rounds .ensures in
+    let r = c .before .before .before .before .rounds .ensures in
     record {
-      basics = values-ext _ _ _ _ (basic-carried u n t o _ e) (c .before .before .before .before .values .ensures);
+      basics = values-ext _ _ _ _ (basic-carried u n t o _ e) (c .before .before .before .before .before .values .ensures);
       tights = values-ext _ _ _ _ (tight-carried u n t o _ e _ (r .1) (r .0 .1)) (c .values2 .ensures);
       rounds = r .0 .0;
     }
@@ -66,4 +69,11 @@ returns c =
 pub judge-by-spec : {M : Type 1} → statement M
 judge-by-spec =
     tie.close
-    (tie.spec cast-n ways-requires values-requires rounds-requires values-requires-2 returns)
+    (tie.spec
+    ways-requires
+    cast-values
+    values-requires
+    rounds-requires
+    cast-values-2
+    values-requires-2
+    returns)
