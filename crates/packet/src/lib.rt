@@ -8,14 +8,14 @@ ghost use Rattle.machinery.specs.Answers.{delayIn, Delayed};
 use model::Span;
 
 // The absolute deadline of a flow's latest packet, or of its first one before that is released.
-pub fn due_of(start: u32, period: u32, deadline: u32, t: u32) -> u32
-    requires { ⌜ (0 < period) × (start ≤ 65535) × (deadline ≤ 65535) × (t ≤ 4000000000) ⌝ }
-    ensures { λ r. ⌜ r ≡ dueIn start period deadline t ⌝ }
+pub fn due_of(first: u32, period: u32, deadline: u32, t: u32) -> u32
+    requires { ⌜ (0 < period) × (first ≤ 65535) × (deadline ≤ 65535) × (t ≤ 4000000000) ⌝ }
+    ensures { λ r. ⌜ r ≡ dueIn first period deadline t ⌝ }
 {
-    if start > t {
-        return start + deadline;
+    if t < first {
+        return first + deadline;
     }
-    t - (t - start) % period + deadline
+    t - (t - first) % period + deadline
 }
 
 // What a packet has had: nothing in its release slot, whatever the count says.
