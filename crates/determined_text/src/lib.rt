@@ -14,7 +14,7 @@ pub struct TwoNumberRead(pub NumberRead, pub NumberRead);
 
 pub struct TwoRow(pub Row, pub Row);
 
-pub struct TwoRoute(pub [u16; Flow::MOST_NODES], pub [u16; Flow::MOST_NODES]);
+pub struct TwoFlow(pub Flow, pub Flow);
 
 pub struct TwoRefusal(pub Refusal, pub Refusal);
 
@@ -56,12 +56,12 @@ pub fn line_at(s: &[u8], from: usize, word: &[u8]) -> TwoRow
     TwoRow(a, b)
 }
 
-pub fn route_of(numbers: [u16; Row::MOST]) -> TwoRoute
+pub fn flow_with(numbers: [u16; Row::MOST], nodes: u16) -> TwoFlow
     ensures { λ r. ⌜ r .0 ≡ r .1 ⌝ }
 {
-    let a = row_rules::route_of(numbers);
-    let b = row_rules::route_of(numbers);
-    TwoRoute(a, b)
+    let a = row_rules::flow_with(numbers, nodes);
+    let b = row_rules::flow_with(numbers, nodes);
+    TwoFlow(a, b)
 }
 
 pub fn first_fault(row: Row) -> TwoRefusal

@@ -7,19 +7,11 @@ use Rattle.model.specs.declared.answers.Refusal.{Refusal}
 use Rattle.model.specs.Refusals.{faultAt}
 use Rattle.model.specs.Sets.{blankSet}
 use Rattle.lines.specs.declared.reading.Row.{Row}
-use Rattle.row_rules.specs.Judged.{numberAt, nodesOf}
+use Rattle.row_rules.specs.Judged.{flowWith}
 
 -- the flow of a row
 abbrev pub flowOfRow : Row → Flow
-flowOfRow r =
-    record {
-      period = record { 0 = numberAt r 0 };
-      deadline = record { 0 = numberAt r 1 };
-      start = numberAt r 2;
-      tries = numberAt r 3;
-      nodes = r .count - 4;
-      route = nodesOf (r .numbers);
-    }
+flowOfRow r = flowWith (r .numbers) (r .count - 4)
 
 -- the set of a map and no flows
 abbrev pub setWith : ℕ → FlowSet

@@ -13,10 +13,9 @@ use model::Flow;
 use model::FlowSet;
 use model::Reading;
 use model::Refusal;
-use model::Span;
 use row_rules::first_fault;
 use row_rules::flow_fault;
-use row_rules::route_of;
+use row_rules::flow_with;
 
 // The reader's answer; a refusal comes with the blank set.
 fn answer(refusal: Refusal, line: u32, set: FlowSet) -> Reading
@@ -32,15 +31,7 @@ fn flow_of(row: Row) -> Flow
     ensures { λ r. ⌜ r ≡ flowOfRow row ⌝ }
 {
     let numbers = row.numbers;
-    let route = route_of(numbers);
-    Flow {
-        period: Span(numbers[0]),
-        deadline: Span(numbers[1]),
-        start: numbers[2],
-        tries: numbers[3],
-        nodes: (row.count - 4) as u16,
-        route,
-    }
+    flow_with(numbers, (row.count - 4) as u16)
 }
 
 // The line at a place as a flow's.

@@ -1,9 +1,10 @@
--- A line's row judged by rules 1 to 9.
+-- A line's row judged by rules 1 to 9, and the flow that its numbers make.
 use mathlib.Core.Bool.{Bool, _&&_, cond}
 use mathlib.Core.List.{List, []}
 use Prim.Native.Nat.{ℕ, _-_}
 use lib.Dec.{leb, eqb}
 use lib.ListN.{getD, take, drop}
+use Rattle.model.specs.declared.kinds.Flow.{Flow}
 use Rattle.model.specs.declared.answers.Refusal.{Refusal}
 use Rattle.model.specs.declared.answers.Refusal.the-variants.{BadForm}
 use Rattle.model.specs.Limits.{mostNodes}
@@ -28,3 +29,15 @@ flowRowFault k r =
     cond (r .formed && leb 4 (r .count))
     (flowFault k (numberAt r 0) (numberAt r 1) (numberAt r 3) (r .count - 4) (take (r .count - 4) (nodesOf (r .numbers))))
     BadForm
+
+-- the flow of a row's numbers, with so many nodes
+abbrev pub flowWith : List ℕ → ℕ → Flow
+flowWith ns n =
+    record {
+      period = record { 0 = getD ns 0 0 };
+      deadline = record { 0 = getD ns 1 0 };
+      start = getD ns 2 0;
+      tries = getD ns 3 0;
+      nodes = n;
+      route = nodesOf ns;
+    }

@@ -1,12 +1,13 @@
 // What a line of a set's text is refused for, judged by its row: its form first, then rules 2 to 9.
 ghost use mathlib.Core.Path.{_≡_};
-ghost use Rattle.row_rules.specs.Judged.{firstRowFault, flowRowFault, nodesOf};
+ghost use Rattle.row_rules.specs.Judged.{firstRowFault, flowRowFault, flowWith, nodesOf};
 use lines::Row;
 use model::Flow;
 use model::Refusal;
+use model::Span;
 
 // The nodes among a flow line's numbers.
-pub fn route_of(numbers: [u16; Row::MOST]) -> [u16; Flow::MOST_NODES]
+fn route_of(numbers: [u16; Row::MOST]) -> [u16; Flow::MOST_NODES]
     ensures { λ r. ⌜ r ≡ nodesOf numbers ⌝ }
 {
     let mut route = [0u16; Flow::MOST_NODES];
@@ -49,4 +50,19 @@ pub fn flow_fault(k: usize, row: Row) -> Refusal
         }
     }
     Refusal::BadForm
+}
+
+// The flow that a flow line's numbers make, with so many nodes.
+pub fn flow_with(numbers: [u16; Row::MOST], nodes: u16) -> Flow
+    ensures { λ r. ⌜ r ≡ flowWith numbers nodes ⌝ }
+{
+    let route = route_of(numbers);
+    Flow {
+        period: Span(numbers[0]),
+        deadline: Span(numbers[1]),
+        start: numbers[2],
+        tries: numbers[3],
+        nodes,
+        route,
+    }
 }

@@ -40,6 +40,11 @@ fn send_of(
     }
 }
 
+// A slot's sends, blank beyond the last.
+pub struct Sending {
+    pub list: [Send; ChannelMap::MOST],
+}
+
 // The sends of the placed flows, at offsets 0, 1, 2 .. in their order.
 pub fn sends(
     map: ChannelMap,
@@ -49,10 +54,10 @@ pub fn sends(
     routes: &[[u16; Flow::MOST_NODES]; Flow::MOST],
     chosen: &[usize; ChannelMap::MOST],
     placed: usize,
-) -> [Send; ChannelMap::MOST]
+) -> Sending
     requires { ⌜ (placed ≤ 16) × (length (now chosen) ≡ 16) ⌝ }
     requires { ⌜ ((i : ℕ) → i < placed → (getD (now chosen) i 0 < 64) × (0 < getD (now tries) (getD (now chosen) i 0) 0) × (getD (now sent) (getD (now chosen) i 0) 0 / getD (now tries) (getD (now chosen) i 0) 0 < 16)) ⌝ }
-    ensures { λ r. ⌜ r ≡ filled 16 noSend (sendsOf (λ k o. sendIn (map .0) t (now (tries .entry)) (now (routes .entry)) k (getD (now (sent .entry)) k 0) o) 0 (take placed (now (chosen .entry)))) ⌝ }
+    ensures { λ r. ⌜ r .list ≡ filled 16 noSend (sendsOf (λ k o. sendIn (map .0) t (now (tries .entry)) (now (routes .entry)) k (getD (now (sent .entry)) k 0) o) 0 (take placed (now (chosen .entry)))) ⌝ }
 {
     let none = Send {
         slot: Slot(0),
@@ -70,5 +75,5 @@ pub fn sends(
         out[i] = send_of(map, t, tries, routes, k, sent[k], i);
         i += 1;
     }
-    out
+    Sending { list: out }
 }
