@@ -19,6 +19,7 @@
  * Memory: the caller owns every buffer. A function reads and writes only the bytes lent, keeps no pointer, and allocates nothing.
  * A buffer of length 0 may be NULL. The areas lent to one call must not overlap.
  * The functions have no state of their own: they may be called from several threads on separate buffers.
+ * Stack: rembasuk_verdict and rembasuk_bounds want 256 kilobytes free, rembasuk_slot 32; tests/host/stack.c measures it.
  */
 #ifndef REMBASUK_H
 #define REMBASUK_H
@@ -32,6 +33,10 @@ extern "C" {
 
 /* A state is this many bytes: the slot in four bytes, lowest first, then a count byte for each of 64 flows. The fresh state is all zeros. */
 #define REMBASUK_STATE_LENGTH 68
+
+/* How many bytes of stack a call may use: the verdict and the bounds, and the slot. */
+#define REMBASUK_VERDICT_STACK 262144
+#define REMBASUK_SLOT_STACK 32768
 
 /* What the two delay tests say of a set. A refused verdict has zeros from `basic` on. */
 typedef struct {

@@ -1,0 +1,68 @@
+/* How much of its caller's stack each function uses: it is called in a thread whose stack was filled with one byte, and what no longer
+ * holds that byte was used. The header says no more than that. */
+#include <pthread.h>
+#include <stdint.h>
+#include <stdio.h>
+#include <stdlib.h>
+#include <string.h>
+
+#include "rembasuk.h"
+
+#define STACK (4u << 20)
+#define FILL 0xA5
+
+static uint8_t text[16384], state[REMBASUK_STATE_LENGTH], lines[4096];
+static size_t length;
+
+static void *verdict(void *unused) {
+    (void)unused;
+    (void)rembasuk_verdict(text, length);
+    return NULL;
+}
+
+static void *bounds(void *unused) {
+    (void)unused;
+    (void)rembasuk_bounds(text, length, 0);
+    return NULL;
+}
+
+static void *slot(void *unused) {
+    (void)unused;
+    (void)rembasuk_slot(text, length, state, sizeof state, lines, sizeof lines);
+    return NULL;
+}
+
+/* 64 flows that share nodes, so that every part of a call is reached. */
+static void make_text(void) {
+    length = (size_t)sprintf((char *)text, "set\t65535\n");
+    for (int k = 0; k < 64; k++) {
+        length += (size_t)sprintf((char *)text + length, "flow\t%d\t%d\t0\t2\t%d\t%d\t%d\n", 600 + k, 500 + k, k, k + 1, k + 2);
+    }
+}
+
+static int check(const char *name, void *(*call)(void *), size_t most) {
+    uint8_t *stack = aligned_alloc(4096, STACK);
+    pthread_attr_t attributes;
+    pthread_t thread;
+    size_t untouched = 0;
+    if (stack == NULL || pthread_attr_init(&attributes) != 0) {
+        return 1;
+    }
+    memset(stack, FILL, STACK);
+    if (pthread_attr_setstack(&attributes, stack, STACK) != 0 || pthread_create(&thread, &attributes, call, NULL) != 0) {
+        return 1;
+    }
+    pthread_join(thread, NULL);
+    while (untouched < STACK && stack[untouched] == FILL) {
+        untouched++;
+    }
+    printf("%s: %zu bytes of stack, thread included; the header says %zu\n", name, STACK - untouched, most);
+    free(stack);
+    return STACK - untouched > most;
+}
+
+int main(void) {
+    make_text();
+    return check("rembasuk_verdict", verdict, REMBASUK_VERDICT_STACK) + check("rembasuk_bounds", bounds, REMBASUK_VERDICT_STACK)
+         + check("rembasuk_slot", slot, REMBASUK_SLOT_STACK);
+}
