@@ -1,0 +1,154 @@
+// Each contract determines its function's result: called twice on the same inputs, a function gives the same answer. That is proved
+// from the contracts alone, since nothing else is seen from here. Here: functions that only crates of the planner call, with what they ask.
+ghost use mathlib.Core.Path.{_≡_};
+ghost use mathlib.Core.Bool.{true};
+ghost use mathlib.Core.List.{[]};
+ghost use Prim.Native.Nat.{ℕ, _/_, _≤_, _<_};
+ghost use lib.ListN.{getD};
+ghost use Rattle.model.specs.Refusals.{good};
+ghost use Rattle.model.specs.Reader.{recordFault};
+ghost use Rattle.model.specs.Sets.{used};
+ghost use Rattle.machinery.specs.Answers.{Delayed};
+use clash::Ends;
+use model::Fault;
+use model::Flow;
+use model::FlowSet;
+use model::Ran;
+use model::Span;
+use model::State;
+use model::Stepped;
+
+pub struct TwoU8(pub u8, pub u8);
+
+pub struct TwoU16(pub u16, pub u16);
+
+pub struct TwoU32(pub u32, pub u32);
+
+pub struct TwoPlaces(pub usize, pub usize);
+
+pub struct TwoBool(pub bool, pub bool);
+
+pub struct TwoSpan(pub Span, pub Span);
+
+pub struct TwoEnds(pub Ends, pub Ends);
+
+pub struct TwoStepped(pub Stepped, pub Stepped);
+
+pub struct TwoRan(pub Ran, pub Ran);
+
+pub fn wide(x: u16) -> TwoPlaces
+    ensures { λ r. ⌜ r .0 ≡ r .1 ⌝ }
+{
+    let a = index::wide(x);
+    let b = index::wide(x);
+    TwoPlaces(a, b)
+}
+
+pub fn bounded(x: u16) -> TwoU16
+    ensures { λ r. ⌜ r .0 ≡ r .1 ⌝ }
+{
+    let a = division::bounded(x);
+    let b = division::bounded(x);
+    TwoU16(a, b)
+}
+
+pub fn less(x: u16, y: u16) -> TwoU16
+    ensures { λ r. ⌜ r .0 ≡ r .1 ⌝ }
+{
+    let a = equation::less(x, y);
+    let b = equation::less(x, y);
+    TwoU16(a, b)
+}
+
+pub fn due_of(first: u32, period: u32, deadline: u32, t: u32) -> TwoU32
+    requires { ⌜ (0 < period) × (first ≤ 65535) × (deadline ≤ 65535) × (t ≤ 4000000000) ⌝ }
+    ensures { λ r. ⌜ r .0 ≡ r .1 ⌝ }
+{
+    let a = packet::due_of(first, period, deadline, t);
+    let b = packet::due_of(first, period, deadline, t);
+    TwoU32(a, b)
+}
+
+pub fn had_of(due: u32, deadline: u32, t: u32, n: u8) -> TwoU8
+    requires { ⌜ (deadline ≤ 65535) × (t ≤ 4000000000) ⌝ }
+    ensures { λ r. ⌜ r .0 ≡ r .1 ⌝ }
+{
+    let a = packet::had_of(due, deadline, t, n);
+    let b = packet::had_of(due, deadline, t, n);
+    TwoU8(a, b)
+}
+
+pub fn is_ready(start: u32, due: u32, sent: u8, work: u8, t: u32) -> TwoBool
+    ensures { λ r. ⌜ r .0 ≡ r .1 ⌝ }
+{
+    let a = packet::is_ready(start, due, sent, work, t);
+    let b = packet::is_ready(start, due, sent, work, t);
+    TwoBool(a, b)
+}
+
+pub fn is_delivered(marked: u8, sent: u8, work: u8) -> TwoBool
+    requires { ⌜ sent ≤ 64 ⌝ }
+    ensures { λ r. ⌜ r .0 ≡ r .1 ⌝ }
+{
+    let a = packet::is_delivered(marked, sent, work);
+    let b = packet::is_delivered(marked, sent, work);
+    TwoBool(a, b)
+}
+
+pub fn is_dropped(t: u32, start: u32, due: u32, after: u8, work: u8) -> TwoBool
+    requires { ⌜ t ≤ 4000000000 ⌝ }
+    ensures { λ r. ⌜ r .0 ≡ r .1 ⌝ }
+{
+    let a = packet::is_dropped(t, start, due, after, work);
+    let b = packet::is_dropped(t, start, due, after, work);
+    TwoBool(a, b)
+}
+
+pub fn delay_of(t: u32, due: u32, deadline: u32) -> TwoSpan
+    requires { ⌜ Delayed t due deadline ⌝ }
+    ensures { λ r. ⌜ r .0 ≡ r .1 ⌝ }
+{
+    let a = packet::delay_of(t, due, deadline);
+    let b = packet::delay_of(t, due, deadline);
+    TwoSpan(a, b)
+}
+
+pub fn ends_of(
+    k: usize,
+    n: u8,
+    tries: &[u16; Flow::MOST],
+    routes: &[[u16; Flow::MOST_NODES]; Flow::MOST],
+) -> TwoEnds
+    requires { ⌜ (k < 64) × (0 < getD (now tries) k 0) × (n / getD (now tries) k 0 < 16) ⌝ }
+    ensures { λ r. ⌜ r .0 ≡ r .1 ⌝ }
+{
+    let a = clash::ends_of(k, n, tries, routes);
+    let b = clash::ends_of(k, n, tries, routes);
+    TwoEnds(a, b)
+}
+
+pub fn refused(fault: Fault, st: State) -> TwoStepped
+    ensures { λ r. ⌜ r .0 ≡ r .1 ⌝ }
+{
+    let a = slot_step::refused(fault, st);
+    let b = slot_step::refused(fault, st);
+    TwoStepped(a, b)
+}
+
+pub fn step_accepted(s: FlowSet, st: State) -> TwoStepped
+    requires { ⌜ good (recordFault (used s) .refusal) ≡ true ⌝ }
+    ensures { λ r. ⌜ r .0 ≡ r .1 ⌝ }
+{
+    let a = slot_step::step_accepted(s, st);
+    let b = slot_step::step_accepted(s, st);
+    TwoStepped(a, b)
+}
+
+pub fn run_accepted(s: FlowSet, fault: Fault, budget: u32) -> TwoRan
+    requires { ⌜ (good (recordFault (used s) .refusal) ≡ true) × (fault ≡ recordFault (used s)) ⌝ }
+    ensures { λ r. ⌜ r .0 ≡ r .1 ⌝ }
+{
+    let a = slot_run::run_accepted(s, fault, budget);
+    let b = slot_run::run_accepted(s, fault, budget);
+    TwoRan(a, b)
+}
