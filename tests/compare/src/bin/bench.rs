@@ -23,10 +23,10 @@ fn main() {
     }
     let ring = ring64();
     verdict(&format!("verdict of the ring, {} rounds", second::verdict(&ring).rounds), 3, &ring);
-    for (name, set) in [("6 % of the slots busy", idle()), ("64 flows of 17 nodes", sets::full(&mut Rng::new(1))), ("16 sends a slot", busy())] {
+    for (name, set) in [("6 % of the slots busy", sets::spread(1024, 16)), ("64 flows of 17 nodes", sets::full(&mut Rng::new(1))), ("16 sends a slot", sets::busy())] {
         slots(&format!("a slot of 64 flows, {name}"), &set);
     }
-    let set = idle();
+    let set = sets::spread(1024, 16);
     let record = Record::new(&set);
     let st = State { slot: 70_001, ..State::FRESH };
     row("a step with its record check", 500, || record.step(black_box(&st)).sends.len(), || second::step(black_box(&set), &st).slot.sends.len());
@@ -86,25 +86,6 @@ fn longest() -> Set {
         for (i, node) in flow.route.iter_mut().enumerate() {
             *node = 65_535 - i as u16;
         }
-    }
-    set
-}
-
-/// 64 flows that start at different times, few slots with a packet.
-fn idle() -> Set {
-    let mut set = sets::full(&mut Rng::new(2));
-    for (k, flow) in set.flows.iter_mut().enumerate() {
-        (flow.period, flow.deadline, flow.nodes, flow.tries) = (1024, 1024, 2, 1);
-        flow.start = 16 * k as u16;
-    }
-    set
-}
-
-/// 64 flows that always have a packet ready.
-fn busy() -> Set {
-    let mut set = sets::full(&mut Rng::new(3));
-    for flow in &mut set.flows {
-        (flow.period, flow.deadline, flow.start, flow.tries) = (64, 64, 0, 4);
     }
     set
 }

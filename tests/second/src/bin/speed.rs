@@ -22,9 +22,9 @@ fn main() {
     if let Ok(planner) = Planner::new(&ring) {
         micros("rounds-only\tring", 5, || planner.delays());
     }
-    slots("slots\tidle", &idle());
+    slots("slots\tidle", &sets::spread(60_000, 900));
     slots("slots\tfull", &full);
-    slots("slots\tbusy", &busy());
+    slots("slots\tbusy", &sets::busy());
     let (mut state, mut buffer) = ([0u8; 68], [0u8; 1024]);
     micros("c-step\tlongest", 200, || step_of_text(&text, &mut state, &mut buffer));
 }
@@ -57,25 +57,6 @@ fn slots(name: &str, set: &Set) {
         best = best.min(start.elapsed().as_secs_f64() * 1e9 / f64::from(run));
     }
     println!("{name}\tnanoseconds\t{best:.1}\tsends a slot\t{:.3}", sends as f64 / f64::from(run));
-}
-
-/// 64 flows of one link, most slots without a packet.
-fn idle() -> Set {
-    let mut set = sets::full(&mut Rng::new(2));
-    for (k, flow) in set.flows.iter_mut().enumerate() {
-        (flow.period, flow.deadline, flow.nodes, flow.tries) = (60_000, 60_000, 2, 1);
-        flow.start = 900 * k as u16;
-    }
-    set
-}
-
-/// 64 flows that always have a packet ready.
-fn busy() -> Set {
-    let mut set = sets::full(&mut Rng::new(3));
-    for flow in &mut set.flows {
-        (flow.period, flow.deadline, flow.start, flow.tries) = (64, 64, 0, 4);
-    }
-    set
 }
 
 /// The longest text: 64 flows of 17 nodes, every number as long as it can be.

@@ -251,6 +251,24 @@ pub fn full(rng: &mut Rng) -> Set {
     draw(rng, &shape)
 }
 
+/// 64 flows of one link with this period and deadline, whose starts are this far apart, for measuring: few slots have a packet.
+pub fn spread(period: u16, apart: u16) -> Set {
+    let mut set = full(&mut Rng::new(2));
+    for (start, flow) in (0..).map(|k: u16| k * apart).zip(&mut set.flows) {
+        (flow.period, flow.deadline, flow.start, flow.nodes, flow.tries) = (period, period, start, 2, 1);
+    }
+    set
+}
+
+/// 64 flows that always have a packet ready, for measuring.
+pub fn busy() -> Set {
+    let mut set = full(&mut Rng::new(3));
+    for flow in &mut set.flows {
+        (flow.period, flow.deadline, flow.start, flow.tries) = (64, 64, 0, 4);
+    }
+    set
+}
+
 /// A ring of 64 flows on 16 channels in which a loss of one slot runs round and round, one flow a round.
 ///
 /// Flow k's route goes to and fro between nodes of its own and those of flow k − 1 (flow 63 for flow 0), so it shares
