@@ -12,9 +12,14 @@ test: all
 	tests/host/run
 	tests/install/run
 
+# An archive is built, and its crate proved, again only where something that it is made of is newer.
+SOURCES := crates.txt $(shell find crates -name '*.rt' -o -name '*.antt')
+
+target/staticlib/lib%.a: $(SOURCES)
+	rt staticlib $*
+
 # The header, the archive and a pkg-config file, for a C host. From a fresh clone: make install PREFIX=..
-install:
-	rt staticlib planner
+install: target/staticlib/libplanner.a
 	install -d "$(DESTDIR)$(PREFIX)/include" "$(DESTDIR)$(PREFIX)/lib/pkgconfig"
 	install -m 644 include/rembasuk.h "$(DESTDIR)$(PREFIX)/include/rembasuk.h"
 	install -m 644 target/staticlib/libplanner.a "$(DESTDIR)$(PREFIX)/lib/librembasuk.a"

@@ -10,9 +10,13 @@ use second::write::text_of;
 use second::{Machine, Planner, Refusal, Set, Slot, State};
 use std::time::{Duration, Instant};
 
+/// How many seeds are compared side by side, for the machine's two processors.
+const WORKERS: u64 = 2;
+
 /// What was compared, and how often each refusal was made, by any function and by those that a user holds.
 struct Tally {
     seed: u64,
+    seeds: u64,
     refusals: [u64; 14],
     called: [u64; 14],
     inputs: u64,
@@ -22,6 +26,23 @@ struct Tally {
 }
 
 impl Tally {
+    fn new(seed: u64) -> Tally {
+        Tally { seed, seeds: 0, refusals: [0; 14], called: [0; 14], inputs: 0, slots: 0, packets: 0, admitted: 0 }
+    }
+
+    /// What another worker compared counts too.
+    fn add(&mut self, other: &Tally) {
+        for n in 0..14 {
+            self.refusals[n] += other.refusals[n];
+            self.called[n] += other.called[n];
+        }
+        self.seeds += other.seeds;
+        self.inputs += other.inputs;
+        self.slots += other.slots;
+        self.packets += other.packets;
+        self.admitted += other.admitted;
+    }
+
     /// Holds what both planners say of a refusal together, and counts it.
     fn fault(&mut self, what: &str, input: &Set, proved: Fault, other: Refusal) {
         self.refusals[usize::from(other.number)] += 1;
@@ -45,12 +66,29 @@ impl Tally {
 }
 
 fn main() {
-    let seconds = std::env::args().nth(1).and_then(|s| s.parse().ok()).unwrap_or(100);
+    let seconds = std::env::args().nth(1).and_then(|s| s.parse().ok()).unwrap_or(60);
     let first: u64 = std::env::args().nth(2).and_then(|s| s.parse().ok()).unwrap_or(1);
     let end = Instant::now() + Duration::from_secs(seconds);
-    let mut tally = Tally { seed: first, refusals: [0; 14], called: [0; 14], inputs: 0, slots: 0, packets: 0, admitted: 0 };
+    let mut tally = Tally::new(first);
     named(&mut tally);
     calls::named(&mut tally);
+    let workers: Vec<_> = (0..WORKERS).map(|w| std::thread::spawn(move || seeds(first + w, end))).collect();
+    for worker in workers {
+        tally.add(&worker.join().expect("a worker ends"));
+    }
+    println!("{} seeds from {first} on: {} comparisons, {} slots, {} packets of {} admitted sets", tally.seeds, tally.inputs, tally.slots,
+        tally.packets, tally.admitted);
+    println!("refusals seen: {}", counts(&tally.refusals));
+    println!("refusals seen of rembasuk_verdict, rembasuk_bounds, rembasuk_slot and plan: {}", counts(&tally.called));
+    if tally.refusals.contains(&0) || tally.called.contains(&0) {
+        println!("a refusal number was never seen");
+        std::process::exit(1);
+    }
+}
+
+/// Every `WORKERS`th seed from the first on, until the time is over.
+fn seeds(first: u64, end: Instant) -> Tally {
+    let mut tally = Tally::new(first);
     while Instant::now() < end {
         let mut rng = Rng::new(tally.seed);
         for _ in 0..20 {
@@ -61,16 +99,10 @@ fn main() {
         }
         long_run(&mut tally, &mut rng);
         calls::walk(&mut tally, &mut rng);
-        tally.seed += 1;
+        tally.seed += WORKERS;
+        tally.seeds += 1;
     }
-    println!("seeds {first} to {}: {} comparisons, {} slots, {} packets of {} admitted sets", tally.seed - 1, tally.inputs, tally.slots,
-        tally.packets, tally.admitted);
-    println!("refusals seen: {}", counts(&tally.refusals));
-    println!("refusals seen of rembasuk_verdict, rembasuk_bounds, rembasuk_slot and plan: {}", counts(&tally.called));
-    if tally.refusals.contains(&0) || tally.called.contains(&0) {
-        println!("a refusal number was never seen");
-        std::process::exit(1);
-    }
+    tally
 }
 
 fn counts(refusals: &[u64; 14]) -> String {
