@@ -1,32 +1,28 @@
--- From the values at the first and at the last list to the bounds and the verdicts, and to the answer for all flows.
-use mathlib.Core.Path.{_≡_, refl, sym, ap, _∙_}
-use mathlib.Core.Bool.{Bool, true, false}
+-- From the values at the first and at the last list to the bounds, and to the answer for all flows.
+use mathlib.Core.Path.{_≡_, sym, ap, _∙_}
+use mathlib.Core.Bool.{true, false}
 use mathlib.Core.List.{List}
-use Prim.Native.Nat.{ℕ, _-_, _/_, _≤_, _<_}
+use Prim.Native.Nat.{ℕ, _-_, _≤_, _<_}
 use native.Mathlib.Nat.{le-trans, le-of-eq}
 use native.Mathlib.Decide.{decLe}
 use native.Mathlib.Omega.{arith}
-use borrow.Author.Tests.{le-leb, lt-leb}
-use lib.Arith.{bin-ind}
-use lib.Count.{ones, ones-step}
 use lib.ListN.{getD, replicate, length-replicate}
 use Rattle.model.specs.declared.kinds.FlowSet.{FlowSet}
 use Rattle.model.specs.declared.answers.Fault.{Fault}
 use Rattle.model.specs.declared.answers.Verdict.{Verdict}
 use Rattle.model.specs.declared.answers.Bounds.{Bounds}
-use Rattle.model.specs.declared.answers.Refusal.the-variants.{NoSuchFlow}
 use Rattle.model.specs.Limits.{mostFlows}
-use Rattle.model.specs.Refusals.{good, faultAt, noFault}
+use Rattle.model.specs.Refusals.{good, noFault}
 use Rattle.model.specs.Reader.{recordFault}
-use Rattle.model.specs.Delay.{ways, basicBound, valueAt, reached, tightBound, verdictIf, verdictOf, boundsFault, boundsIf, boundsOf, deadlines}
+use Rattle.model.specs.Delay.{ways, basicBound, reached, tightBound, boundsOf, deadlines}
 use Rattle.greatest.specs.Values.{list-entry, value-at-deadlines, deadlines-entry}
-use Rattle.conflict.specs.Grid.{FilledTo}
-use Rattle.conflict.proofs.Fill.{zeros}
-use Rattle.shares.specs.Tables.{Tables, Tabled}
-use Rattle.equation.specs.Rows.{tableValue}
-use Rattle.equation.proofs.Carry.{value-carried}
-use Rattle.rounds.specs.Answers.{refusedBounds, AllBoundsOf}
-use Rattle.rounds.specs.Steps.{leftOf, Below, ValuesTo, JudgedAs}
+use Rattle.grid.proofs.Fill.{zeros}
+use Rattle.tables.specs.Tables.{Tables, Tabled}
+use Rattle.tables.specs.Sums.{tableValue}
+use Rattle.tables.proofs.Carry.{value-carried}
+use Rattle.bounds.specs.Answers.{refusedBounds, AllBoundsOf}
+use Rattle.tables.specs.Steps.{leftOf, Below, ValuesTo, JudgedAs}
+use Rattle.bounds.proofs.Answers.{verdict-good, verdict-bad, bounds-refused, bounds-none, bounds-given}
 
 -- the value with nothing gone is the basic bound
 pub basic-carried : (s : FlowSet) → s .count ≤ mostFlows → (t : Tables) → Tabled s t → (m : ℕ) → m ≡ ways s → (k : ℕ) → k < s .count
@@ -55,58 +51,6 @@ values-ext f g n x e o =
       entries = record { whole = o .entries .whole; entry = λ i h. o .entries .entry i h ∙ e i h; none = o .entries .none };
       small = λ i h. le-trans (le-of-eq (sym (e i h))) (o .small i h);
     }
-
--- a map that is not 0 has a channel
-pub ones-pos : (n : ℕ) → 0 < n → 0 < ones n
-ones-pos n = bin-ind (λ m. 0 < m → 0 < ones m) (λ h. absurd (omega arith)) step n
-  where
-    step : (m : ℕ) → (0 < m / 2 → 0 < ones (m / 2)) → 0 < m → 0 < ones m
-    step m ih h =
-        let e = ones-step m in
-        elim (decLe (m / 2) 0) [
-          | yes z ↦ omega arith
-          | no z ↦ omega (arith, ih (omega arith))
-        ]
-
--- the two answers of a verdict
-pub verdict-good : (s : FlowSet) → good (recordFault s .refusal) ≡ true → verdictOf s ≡ verdictIf s true
-unfolding verdictOf
-verdict-good s e = rw e
-
-pub verdict-bad : (s : FlowSet) → good (recordFault s .refusal) ≡ false → verdictOf s ≡ verdictIf s false
-unfolding verdictOf
-verdict-bad s e = rw e
-
--- the fault of a bound: the record's, 13, or none
-fault-record : (s : FlowSet) (k : ℕ) → good (recordFault s .refusal) ≡ false → boundsFault s k ≡ recordFault s
-unfolding boundsFault
-fault-record s k e = rw e
-
-fault-none : (s : FlowSet) (k : ℕ) → good (recordFault s .refusal) ≡ true → s .count ≤ k → boundsFault s k ≡ faultAt NoSuchFlow 0
-unfolding boundsFault
-fault-none s k e h = rw (e, le-leb (s .count) k h)
-
-fault-free : (s : FlowSet) (k : ℕ) → good (recordFault s .refusal) ≡ true → k < s .count → boundsFault s k ≡ noFault
-unfolding boundsFault
-fault-free s k e h = rw (e, lt-leb (s .count) k h)
-
--- and the answer by it
-bounds-by : (s : FlowSet) (k : ℕ) (f : Fault) (b : Bool) → boundsFault s k ≡ f → good (f .refusal) ≡ b → boundsOf s k ≡ boundsIf s k b
-unfolding boundsOf
-bounds-by s k f b p q = ap (λ (g : Fault). boundsIf s k (good (g .refusal))) p ∙ ap (boundsIf s k) q
-
-pub bounds-refused : (s : FlowSet) (k : ℕ) (f : Fault) → good (recordFault s .refusal) ≡ false → f ≡ recordFault s → refusedBounds f ≡ boundsOf s k
-bounds-refused s k f e p =
-    let q = fault-record s k e in
-    ap refusedBounds (p ∙ sym q) ∙ sym (bounds-by s k (recordFault s) false q e)
-
-pub bounds-none : (s : FlowSet) (k : ℕ) → good (recordFault s .refusal) ≡ true → s .count ≤ k → refusedBounds (faultAt NoSuchFlow 0) ≡ boundsOf s k
-bounds-none s k e h =
-    let q = fault-none s k e h in
-    ap refusedBounds (sym q) ∙ sym (bounds-by s k (faultAt NoSuchFlow 0) false q refl)
-
-pub bounds-given : (s : FlowSet) (k : ℕ) → good (recordFault s .refusal) ≡ true → k < s .count → boundsIf s k true ≡ boundsOf s k
-bounds-given s k e h = sym (bounds-by s k noFault true (fault-free s k e h) refl)
 
 -- the answer for all flows, of a refused set and of one that is judged
 pub all-refused : (s : FlowSet) (f : Fault) → good (recordFault s .refusal) ≡ false → f ≡ recordFault s

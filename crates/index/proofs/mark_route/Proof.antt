@@ -3,8 +3,8 @@ use mathlib.Core.Path.{_≡_, sym, ap, _∙_}
 use Prim.Native.Nat.{ℕ, _+_, _-_, _*_, _≤_, _<_}
 use native.Mathlib.Omega.{arith}
 use lib.ListN.{length, getD}
-use Rattle.index.specs.Index.{Placed, Rowed, Column, OtherColumns}
-use Rattle.index.proofs.Places.{place-lt, others-next, column-next, column-at}
+use Rattle.node_rows.specs.Index.{Placed, Rowed, Column, OtherColumns}
+use Rattle.node_rows.proofs.Places.{place-lt, others-next, column-next, column-at}
 use borrow.Author.Needs.{needs}
 use Rattle.index.proofs.mark_route.Statement.{statement}
 use Rattle.index.proofs.mark_route.Tie as tie

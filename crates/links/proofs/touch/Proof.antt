@@ -5,8 +5,8 @@ use native.Mathlib.Nat.{le-trans}
 use native.Mathlib.Omega.{arith}
 use lib.ListN.{length, getD}
 use Rattle.model.specs.Delay.{links}
-use Rattle.links.specs.Met.{Added, Met}
-use Rattle.links.proofs.Counts.{met-next, met-small}
+use Rattle.ends.specs.Met.{Added, Met}
+use Rattle.ends.proofs.Counts.{met-next, met-small}
 use borrow.Author.Needs.{needs}
 use Rattle.links.proofs.touch.Statement.{statement}
 use Rattle.links.proofs.touch.Tie as tie

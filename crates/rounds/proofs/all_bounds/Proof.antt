@@ -4,7 +4,7 @@ use mathlib.Core.Bool.{true}
 use Rattle.model.specs.Refusals.{good}
 use Rattle.model.specs.Reader.{recordFault}
 use Rattle.model.specs.Sets.{used}
-use Rattle.conflict.proofs.Checked.{number-zero, number-other}
+use Rattle.grid.proofs.Checked.{number-zero, number-other}
 use Rattle.rounds.proofs.Results.{all-refused, all-given}
 use borrow.Author.Needs.{needs}
 use Rattle.rounds.proofs.all_bounds.Statement.{statement}

@@ -3,10 +3,11 @@ use mathlib.Core.Path.{_≡_, refl, ap, _∙_}
 use Prim.Native.Nat.{ℕ, _≤_, _<_}
 use native.Mathlib.Omega.{arith}
 use Rattle.model.specs.Sets.{used}
-use Rattle.shares.specs.Tables.{Tables, tablesOf}
-use Rattle.equation.specs.Rows.{tableValue, Fits}
-use Rattle.equation.proofs.Carry.{fits-carried}
-use Rattle.rounds.proofs.Results.{basic-carried, tight-carried, values-ext, ones-pos}
+use Rattle.tables.specs.Tables.{Tables, tablesOf}
+use Rattle.tables.specs.Sums.{tableValue, Fits}
+use Rattle.tables.proofs.Carry.{fits-carried}
+use Rattle.grid.proofs.Checked.{ones-pos}
+use Rattle.rounds.proofs.Results.{basic-carried, tight-carried, values-ext}
 use borrow.Author.Needs.{needs}
 use Rattle.rounds.proofs.judge_by.Statement.{statement}
 use Rattle.rounds.proofs.judge_by.Tie as tie
