@@ -92,6 +92,14 @@ pub fn search_from(n: usize, m: &[u8; 256], node: u16) -> TwoPlaces
     TwoPlaces(a, b)
 }
 
+pub fn row_of(rows: &[u16; node_rows::NODES], node: u16) -> TwoPlaces
+    ensures { λ r. ⌜ r .0 ≡ r .1 ⌝ }
+{
+    let a = ends::row_of(rows, node);
+    let b = ends::row_of(rows, node);
+    TwoPlaces(a, b)
+}
+
 pub fn due_of(first: u32, period: u32, deadline: u32, t: u32) -> TwoU32
     requires { ⌜ (0 < period) × (first ≤ 65535) × (deadline ≤ 65535) × (t ≤ 4000000000) ⌝ }
     ensures { λ r. ⌜ r .0 ≡ r .1 ⌝ }

@@ -20,10 +20,8 @@ pub fn touch(
     let n = l.links() as usize;
     let mut i: usize = 0;
     while i < n {
-        let from = arithmetic::wide(l.route[i]);
-        let to = arithmetic::wide(l.route[i + 1]);
-        let a = arithmetic::wide(rows[from]);
-        let b = arithmetic::wide(rows[to]);
+        let a = ends::row_of(rows, l.route[i]);
+        let b = ends::row_of(rows, l.route[i + 1]);
         ends::add_link(a, b, users, touched);
         i += 1;
     }
