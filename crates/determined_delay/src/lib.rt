@@ -17,8 +17,8 @@ pub struct TwoBounds(pub Bounds, pub Bounds);
 pub fn all_bounds(s: FlowSet) -> TwoAllBounds
     ensures { λ r. ⌜ r .0 ≡ r .1 ⌝ }
 {
-    let a = rounds::all_bounds(s);
-    let b = rounds::all_bounds(s);
+    let a = delay::all_bounds(s);
+    let b = delay::all_bounds(s);
     TwoAllBounds(a, b)
 }
 

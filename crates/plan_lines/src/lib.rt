@@ -55,7 +55,7 @@ pub fn put_plan(out: &mut [u8], s: FlowSet) -> usize
     requires { ⌜ recordFault (used s) ≡ noFault ⌝ }
     ensures { λ r. ⌜ Put (now (out .entry)) 0 (planOf (used s)) (now (out .exit)) r × (length (planOf (used s)) ≤ 18432) ⌝ }
 {
-    let j = rounds::all_bounds(s);
+    let j = delay::all_bounds(s);
     let v = verdicts::verdict_of(s, j);
     let first = put_verdict(out, 0, v);
     let second = put_bounds(out, first, s, j);

@@ -9,11 +9,11 @@ use Rattle.model.specs.Delay.{mostRounds}
 use Rattle.greatest.specs.Rounds.{accepted-fits}
 use Rattle.tables.proofs.Carry.{fits-carried}
 use Rattle.tables.specs.Steps.{leftOf, Below, Judges, Going}
-use Rattle.reach.proofs.Going.{going-start, going-next, most-small, deadlines-carried, none-gone}
+use Rattle.rounds.proofs.Going.{going-start, going-next, most-small, deadlines-carried, none-gone}
 use Rattle.grid.proofs.Checked.{ones-pos}
 use borrow.Author.Needs.{needs}
-use Rattle.reach.proofs.rounds.Statement.{statement}
-use Rattle.reach.proofs.rounds.Tie as tie
+use Rattle.rounds.proofs.rounds.Statement.{statement}
+use Rattle.rounds.proofs.rounds.Tie as tie
 
 abbrev Inv-loop : tie.InvT-loop
 Inv-loop s conflict remainder work deadline whole-conflict whole-work m gone₀ count₀ going₀ gone count going = Below deadline gone (s .count) × Going (used s) going count (leftOf deadline gone (s .count))

@@ -5,10 +5,10 @@ use Rattle.model.specs.Refusals.{good}
 use Rattle.model.specs.Reader.{recordFault}
 use Rattle.model.specs.Sets.{used}
 use Rattle.grid.proofs.Checked.{number-zero, number-other}
-use Rattle.rounds.proofs.Results.{all-refused, all-given}
+use Rattle.delay.proofs.Results.{all-refused, all-given}
 use borrow.Author.Needs.{needs}
-use Rattle.rounds.proofs.all_bounds.Statement.{statement}
-use Rattle.rounds.proofs.all_bounds.Tie as tie
+use Rattle.delay.proofs.all_bounds.Statement.{statement}
+use Rattle.delay.proofs.all_bounds.Tie as tie
 
 -- past the test the record check has passed
 passed : (c : tie.Else1) → good (recordFault (used (c .before .before .before .args .s)) .refusal) ≡ true

@@ -2,8 +2,8 @@
 use mathlib.Core.Path.{_≡_, refl}
 use Rattle.laws.specs.Accepted.{accepted}
 use borrow.Author.Needs.{needs}
-use Rattle.rounds.proofs.judge.Statement.{statement}
-use Rattle.rounds.proofs.judge.Tie as tie
+use Rattle.delay.proofs.judge.Statement.{statement}
+use Rattle.delay.proofs.judge.Tie as tie
 
 tabulate-requires : tie.Need-tabulate-requires
 tabulate-requires c κs = (accepted _ (c .before .before .before .before .before .before .pre), refl)

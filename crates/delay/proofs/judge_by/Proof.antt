@@ -7,10 +7,10 @@ use Rattle.tables.specs.Tables.{Tables, tablesOf}
 use Rattle.tables.specs.Sums.{tableValue, Fits}
 use Rattle.tables.proofs.Carry.{fits-carried}
 use Rattle.grid.proofs.Checked.{ones-pos}
-use Rattle.rounds.proofs.Results.{basic-carried, tight-carried, values-ext}
+use Rattle.delay.proofs.Results.{basic-carried, tight-carried, values-ext}
 use borrow.Author.Needs.{needs}
-use Rattle.rounds.proofs.judge_by.Statement.{statement}
-use Rattle.rounds.proofs.judge_by.Tie as tie
+use Rattle.delay.proofs.judge_by.Statement.{statement}
+use Rattle.delay.proofs.judge_by.Tie as tie
 
 -- where the function began, and the tables that were lent
 abbrev start : (c : tie.After-ways) → tie.Start
