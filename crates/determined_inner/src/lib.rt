@@ -95,8 +95,8 @@ pub fn search_from(n: usize, m: &[u8; 256], node: u16) -> TwoPlaces
 pub fn row_of(rows: &[u16; node_rows::NODES], node: u16) -> TwoPlaces
     ensures { λ r. ⌜ r .0 ≡ r .1 ⌝ }
 {
-    let a = ends::row_of(rows, node);
-    let b = ends::row_of(rows, node);
+    let a = index::row_of(rows, node);
+    let b = index::row_of(rows, node);
     TwoPlaces(a, b)
 }
 

@@ -1,8 +1,11 @@
-// Which routes each node is on: an index that is made once, for sets with many flows.
-ghost use Prim.Native.Nat.{_≤_, _<_};
+// Which routes each node is on: an index that is made once, for sets with many flows, and what a link adds by it.
+ghost use mathlib.Core.Path.{_≡_};
+ghost use Prim.Native.Nat.{ℕ, _≤_, _<_};
+ghost use lib.ListN.{length, getD};
 ghost use Rattle.model.specs.Sets.{used};
 ghost use Rattle.laws.specs.Accepted.{Accepted};
 ghost use Rattle.node_rows.specs.Index.{Placed, Rowed, PlacedTo, Column, OtherColumns, UsersTo};
+ghost use Rattle.index.specs.Met.{Added};
 use model::Flow;
 use model::FlowSet;
 
@@ -20,6 +23,14 @@ pub fn place(s: FlowSet, rows: &mut [u16; node_rows::NODES])
     }
 }
 
+// The row of a node.
+pub fn row_of(rows: &[u16; node_rows::NODES], node: u16) -> usize
+    ensures { λ r. ⌜ (r ≡ getD (now (rows .entry)) node 0) × (r ≤ 65535) ⌝ }
+{
+    let at = arithmetic::wide(node);
+    arithmetic::wide(rows[at])
+}
+
 // Flow k is one of those whose route its nodes are on.
 fn mark_route(f: Flow, k: usize, rows: &[u16; node_rows::NODES], users: &mut [u8; node_rows::USERS])
     requires { ⌜ (f .nodes ≤ 17) × (k < 64) × Placed (now rows) 1088 × Rowed (now rows) (f .route) (f .nodes) ⌝ }
@@ -29,8 +40,7 @@ fn mark_route(f: Flow, k: usize, rows: &[u16; node_rows::NODES], users: &mut [u8
     let n = f.nodes as usize;
     let mut j: usize = 0;
     while j < n {
-        let node = arithmetic::wide(f.route[j]);
-        let row = arithmetic::wide(rows[node]);
+        let row = row_of(rows, f.route[j]);
         users[row * Flow::MOST + k] = 1;
         j += 1;
     }
@@ -46,6 +56,22 @@ pub fn mark(s: FlowSet, rows: &[u16; node_rows::NODES], users: &mut [u8; node_ro
     while k < n {
         let f = s.flows[k];
         mark_route(f, k, rows, users);
+        k += 1;
+    }
+}
+
+// One more for each flow whose route has an end of a link, the ends' rows being a and b.
+pub fn add_link(a: usize, b: usize, users: &[u8; node_rows::USERS], touched: &mut [u8; Flow::MOST])
+    requires { ⌜ (a ≤ 1088) × (b ≤ 1088) × (length (now touched) ≡ 64) ⌝ }
+    requires { ⌜ ((i : ℕ) → getD (now users) i 0 ≤ 1) × ((k : ℕ) → getD (now touched) k 0 ≤ 16) ⌝ }
+    ensures { λ r. ⌜ Added (now (users .entry)) a b 64 (now (touched .entry)) (now (touched .exit)) ⌝ }
+{
+    let first = a * Flow::MOST;
+    let second = b * Flow::MOST;
+    let mut k: usize = 0;
+    while k < Flow::MOST {
+        let old = touched[k];
+        touched[k] = old + arithmetic::larger(users[first + k], users[second + k]);
         k += 1;
     }
 }

@@ -3,7 +3,7 @@ ghost use mathlib.Core.Path.{_≡_};
 ghost use Prim.Native.Nat.{ℕ, _-_, _≤_};
 ghost use lib.ListN.{length, getD};
 ghost use Rattle.node_rows.specs.Index.{Placed};
-ghost use Rattle.ends.specs.Met.{Met};
+ghost use Rattle.index.specs.Met.{Met};
 use model::Flow;
 
 // For each flow, how many of l's links have an end on its route.
@@ -20,9 +20,9 @@ pub fn touch(
     let n = l.links() as usize;
     let mut i: usize = 0;
     while i < n {
-        let a = ends::row_of(rows, l.route[i]);
-        let b = ends::row_of(rows, l.route[i + 1]);
-        ends::add_link(a, b, users, touched);
+        let a = index::row_of(rows, l.route[i]);
+        let b = index::row_of(rows, l.route[i + 1]);
+        index::add_link(a, b, users, touched);
         i += 1;
     }
 }

@@ -21,7 +21,7 @@ use Rattle.grid.specs.Grid.{pairAt, conflictOf, RowsTo}
 use Rattle.grid.proofs.Fill.{zeros}
 use Rattle.marks.proofs.Routes.{meet-ends}
 use Rattle.node_rows.specs.Index.{Rowed, PlacedTo, UsersTo}
-use Rattle.ends.specs.Met.{either, metTo}
+use Rattle.index.specs.Met.{either, metTo}
 use Rattle.meetings.specs.Columns.{ColumnDone, ColumnsTo}
 
 -- one row more of a column

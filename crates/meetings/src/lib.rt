@@ -7,7 +7,7 @@ ghost use Rattle.laws.specs.Accepted.{Accepted};
 ghost use Rattle.grid.specs.Grid.{conflictOf, RowsTo};
 ghost use Rattle.node_rows.specs.Index.{Placed, PlacedTo, UsersTo};
 ghost use Rattle.meetings.specs.Columns.{ColumnDone};
-ghost use Rattle.ends.specs.Met.{metTo};
+ghost use Rattle.index.specs.Met.{metTo};
 use model::Flow;
 use model::FlowSet;
 

@@ -5,8 +5,8 @@ use native.Mathlib.Nat.{le-trans, le-of-eq}
 use native.Mathlib.Omega.{arith}
 use lib.ListN.{length, getD}
 use Rattle.model.specs.Delay.{links}
-use Rattle.ends.specs.Met.{Added, Met}
-use Rattle.ends.proofs.Counts.{met-next, met-small}
+use Rattle.index.specs.Met.{Added, Met}
+use Rattle.index.proofs.Counts.{met-next, met-small}
 use borrow.Author.Needs.{needs}
 use Rattle.links.proofs.touch.Statement.{statement}
 use Rattle.links.proofs.touch.Tie as tie
@@ -52,8 +52,8 @@ add-link-requires c κs =
     let w = c .before .before .before .before .before .before .loop in
     let b = c .before .before .before .before .before .before .before .before in
     let o = b .pre .0 .2 in
-    let x = le-trans (le-of-eq (c .before .before .before .row-of .ensures)) (o .below _) in
-    let y = le-trans (le-of-eq (c .before .row-of2 .ensures)) (o .below _) in
+    let x = le-trans (le-of-eq (c .before .before .before .row-of .ensures .0)) (o .below _) in
+    let y = le-trans (le-of-eq (c .before .row-of2 .ensures .0)) (o .below _) in
     ((x, y, w .inv .3 .whole), (b .pre .0 .3, met-small _ _ _ (w .i) 16 _ (omega arith) (w .inv .3)))
 
 add-i : tie.Need-add-i Inv-loop μ-loop
@@ -66,8 +66,8 @@ loop-again : tie.Need-loop-again Inv-loop μ-loop
 loop-again c =
     let w = c .before .before .before .before .before .before .before .loop in
     let b = c .before .before .before .before .before .before .before .before .before in
-    let e = c .before .before .before .before .row-of .ensures in
-    let f = c .before .before .row-of2 .ensures in (
+    let e = c .before .before .before .before .row-of .ensures .0 in
+    let f = c .before .before .row-of2 .ensures .0 in (
       search needs,
       search needs,
       search needs,

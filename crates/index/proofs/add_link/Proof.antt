@@ -3,11 +3,11 @@ use mathlib.Core.Path.{_≡_, sym, ap, ap₂, _∙_}
 use Prim.Native.Nat.{ℕ, _+_, _*_, _-_, _≤_, _<_, max}
 use native.Mathlib.Omega.{arith}
 use lib.ListN.{getD}
-use Rattle.ends.specs.Met.{either, Added}
-use Rattle.ends.proofs.Counts.{added-start, added-next}
+use Rattle.index.specs.Met.{either, Added}
+use Rattle.index.proofs.Counts.{added-start, added-next}
 use borrow.Author.Needs.{needs}
-use Rattle.ends.proofs.add_link.Statement.{statement}
-use Rattle.ends.proofs.add_link.Tie as tie
+use Rattle.index.proofs.add_link.Statement.{statement}
+use Rattle.index.proofs.add_link.Tie as tie
 
 abbrev Inv-loop : tie.InvT-loop
 Inv-loop a b users touched₀ first second k₀ touched k = (k ≤ 64) × Added users a b k touched₀ touched

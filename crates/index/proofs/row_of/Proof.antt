@@ -3,8 +3,8 @@ use mathlib.Core.Path.{ap, _∙_}
 use Prim.Native.Nat.{ℕ}
 use lib.ListN.{getD}
 use borrow.Author.Needs.{needs}
-use Rattle.ends.proofs.row_of.Statement.{statement}
-use Rattle.ends.proofs.row_of.Tie as tie
+use Rattle.index.proofs.row_of.Statement.{statement}
+use Rattle.index.proofs.row_of.Tie as tie
 
 wide-requires : tie.Need-wide-requires
 wide-requires c κs = search needs
@@ -19,7 +19,9 @@ wide-requires-2 : tie.Need-wide-requires-2
 wide-requires-2 c κs = search needs
 
 returns : tie.Need-returns
-returns c = c .wide2 .ensures .0 ∙ ap (λ (x : ℕ). getD (c .before .before .before .args .rows .now) x 0) (c .before .before .wide .ensures .0)
+returns c =
+    let e = ap (λ (x : ℕ). getD (c .before .before .before .args .rows .now) x 0) (c .before .before .wide .ensures .0) in
+    (c .wide2 .ensures .0 ∙ e, c .wide2 .ensures .1)
 
 pub row-of-spec : {M : Type 1} → statement M
 row-of-spec = tie.close (tie.spec wide-requires mul-wide element-copy-out-wide wide-requires-2 returns)
