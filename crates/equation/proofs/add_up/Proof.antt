@@ -8,8 +8,8 @@ use Rattle.laws.specs.Sums.{sum-next, sum-zero}
 use Rattle.grid.specs.Grid.{pairAt}
 use Rattle.tables.specs.Sums.{cutAt, conflictRow, workRow}
 use borrow.Author.Needs.{needs}
-use Rattle.sums.proofs.add_up.Statement.{statement}
-use Rattle.sums.proofs.add_up.Tie as tie
+use Rattle.equation.proofs.add_up.Statement.{statement}
+use Rattle.equation.proofs.add_up.Tie as tie
 
 abbrev Inv-loop : tie.InvT-loop
 Inv-loop k conflict remainder work gone row x₀ w₀ l₀ x w l =
