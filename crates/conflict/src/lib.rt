@@ -1,17 +1,13 @@
 // S of document 01's delay tests: how much of one flow's work meets another's route.
 ghost use mathlib.Core.Path.{_≡_};
 ghost use Prim.Native.Nat.{_*_, _≤_, _<_};
-ghost use lib.ListN.{length, take};
-ghost use Rattle.model.specs.Sums.{bit};
+ghost use lib.ListN.{length};
 ghost use Rattle.model.specs.Sets.{used};
 ghost use Rattle.laws.specs.Accepted.{Accepted};
-ghost use Rattle.conflict.specs.Grid.{conflictOf, RowsTo, RowDone};
-ghost use Rattle.conflict.specs.Marks.{Marked, SearchFrom, endOn, endsOn};
+ghost use Rattle.grid.specs.Grid.{conflictOf, RowsTo, RowDone};
+ghost use Rattle.marks.specs.Marks.{Marked};
 use model::Flow;
 use model::FlowSet;
-
-// How many pairs of flows a set can have: row k, column l of a grid is at k times the most flows, plus l.
-pub const PAIRS: usize = Flow::MOST * Flow::MOST;
 
 // Which remainders modulo 256 the first n nodes of a route have. A node whose remainder is not marked is none of them.
 fn marks(n: usize, route: &[u16; Flow::MOST_NODES]) -> [u8; 256]
@@ -26,73 +22,6 @@ fn marks(n: usize, route: &[u16; Flow::MOST_NODES]) -> [u8; 256]
         j += 1;
     }
     m
-}
-
-// From which place on a route of n nodes with these marks is to be searched for a node: none is left where it is not marked.
-fn search_from(n: usize, m: &[u8; 256], node: u16) -> usize
-    ensures { λ r. ⌜ SearchFrom (now (m .entry)) n node r ⌝ }
-{
-    let at = (node % 256) as usize;
-    if m[at] == 0 {
-        return n;
-    }
-    0
-}
-
-// Whether link i of the other route has an end on mine: one common node is enough, and the search of the two routes ends there.
-fn touches(
-    n: usize,
-    mine: &[u16; Flow::MOST_NODES],
-    other: &[u16; Flow::MOST_NODES],
-    i: usize,
-    m: &[u8; 256],
-) -> bool
-    requires { ⌜ (n ≤ 17) × (i < 16) × (length (now mine) ≡ 17) × Marked (now m) (now mine) n ⌝ }
-    ensures { λ r. ⌜ r ≡ endOn (now (other .entry)) (take n (now (mine .entry))) i ⌝ }
-{
-    let mut found = false;
-    let mut e: usize = 0;
-    'ends: while e < 2 {
-        let at = i + e;
-        let node = other[at];
-        let mut j = search_from(n, m, node);
-        while j < n {
-            if node == mine[j] {
-                found = true;
-                break 'ends;
-            }
-            j += 1;
-        }
-        e += 1;
-    }
-    found
-}
-
-// A test as a number, to count by.
-fn one_if(test: bool) -> u16
-    ensures { λ r. ⌜ (r ≡ bit test) × (r ≤ 1) ⌝ }
-{
-    if test { 1 } else { 0 }
-}
-
-// How many of the other route's links have an end on mine.
-fn links_touched(
-    n: usize,
-    mine: &[u16; Flow::MOST_NODES],
-    links: usize,
-    other: &[u16; Flow::MOST_NODES],
-    m: &[u8; 256],
-) -> u16
-    requires { ⌜ (n ≤ 17) × (links ≤ 16) × (length (now mine) ≡ 17) × Marked (now m) (now mine) n ⌝ }
-    ensures { λ r. ⌜ (r ≡ endsOn (now (other .entry)) (take n (now (mine .entry))) links) × (r ≤ 16) ⌝ }
-{
-    let mut touched: u16 = 0;
-    let mut i: usize = 0;
-    while i < links {
-        touched += one_if(touches(n, mine, other, i, m));
-        i += 1;
-    }
-    touched
 }
 
 // κ times such a number.
@@ -111,7 +40,7 @@ fn route(f: Flow) -> [u16; Flow::MOST_NODES]
 }
 
 // S of flow k and every other.
-fn conflict_row(s: FlowSet, k: usize, t: &mut [u16; PAIRS])
+fn conflict_row(s: FlowSet, k: usize, t: &mut [u16; grid::PAIRS])
     requires { ⌜ Accepted (used s) ⌝ }
     requires { ⌜ (k < s .count) × (length (now t) ≡ 4096) ⌝ }
     ensures { λ r. ⌜ RowDone (conflictOf (used s) k) (s .count) k (now (t .entry)) (now (t .exit)) ⌝ }
@@ -126,13 +55,16 @@ fn conflict_row(s: FlowSet, k: usize, t: &mut [u16; PAIRS])
         let f = s.flows[l];
         let other = route(f);
         let links = f.links() as usize;
-        t[k * Flow::MOST + l] = times(f.tries, links_touched(nodes, &mine, links, &other, &m));
+        t[k * Flow::MOST + l] = times(
+            f.tries,
+            touches::links_touched(nodes, &mine, links, &other, &m),
+        );
         l += 1;
     }
 }
 
 // S of every pair, by a search of the two routes.
-pub fn search(s: FlowSet, t: &mut [u16; PAIRS])
+pub fn search(s: FlowSet, t: &mut [u16; grid::PAIRS])
     requires { ⌜ Accepted (used s) × RowsTo (conflictOf (used s)) (s .count) 0 (now t) ⌝ }
     ensures { λ r. ⌜ RowsTo (conflictOf (used s)) (s .count) (s .count) (now (t .exit)) ⌝ }
 {

@@ -1,68 +1,145 @@
-// The two delay tests of document 01: the verdicts of a set, and one flow's bounds.
+// The two delay tests of document 01: both bounds of every flow, the verdicts of a set, and one flow's bounds.
 ghost use mathlib.Core.Path.{_≡_};
-ghost use mathlib.Core.Bool.{true, _&&_};
-ghost use Prim.Native.Nat.{_≤_, _<_};
-ghost use lib.IntN.{pos, _-ℤ_};
-ghost use lib.ListN.{getD};
-ghost use Rattle.model.specs.Refusals.{good};
+ghost use mathlib.Core.Bool.{true};
+ghost use Rattle.model.specs.Refusals.{good, noFault};
 ghost use Rattle.model.specs.Reader.{recordFault};
 ghost use Rattle.model.specs.Sets.{used};
-ghost use Rattle.model.specs.Delay.{admits, verdictOf, boundsIf, boundsOf};
-ghost use Rattle.rounds.specs.Answers.{refusedBounds, AllBoundsOf};
+ghost use Rattle.laws.specs.Accepted.{Accepted};
+ghost use Rattle.tables.specs.Tables.{tablesOf, Tabled};
+ghost use Rattle.bounds.specs.Answers.{AllBoundsOf};
+ghost use Rattle.tables.specs.Steps.{JudgedAs};
+ghost use Rattle.model.specs.Delay.{verdictOf, boundsOf};
+use bounds::AllBounds;
 use model::Bounds;
 use model::Fault;
 use model::Flow;
 use model::FlowSet;
 use model::Refusal;
-use model::Span;
 use model::Verdict;
-use rounds::AllBounds;
 
-fn both(a: bool, b: bool) -> bool
-    ensures { λ r. ⌜ r ≡ (a && b) ⌝ }
-{
-    if a { b } else { false }
+// Both bounds of every flow, and the number of rounds.
+struct Judged {
+    basic: [u32; Flow::MOST],
+    tightened: [u32; Flow::MOST],
+    rounds: u32,
 }
 
-// A test admits when every bound is at most its deadline.
-fn admits(s: FlowSet, bound: [u32; Flow::MOST]) -> bool
-    requires { ⌜ s .count ≤ 64 ⌝ }
-    ensures { λ r. ⌜ r ≡ admits (used s) (λ k. getD bound k 0) ⌝ }
+// The same from the tables.
+fn judge_by<'a>(
+    s: FlowSet,
+    conflict: &'a [u16; grid::PAIRS],
+    remainder: &'a [u16; grid::PAIRS],
+    work: &'a [u16; Flow::MOST],
+    deadline: &'a [u16; Flow::MOST],
+    whole_conflict: &'a [u32; Flow::MOST],
+    whole_work: &'a [u32; Flow::MOST],
+) -> Judged
+    requires { ⌜ Accepted (used s) × Tabled (used s) (tablesOf (now conflict) (now remainder) (now work) (now deadline) (now «whole_conflict») (now «whole_work»)) ⌝ }
+    ensures { λ r. ⌜ JudgedAs (used s) (r .basic) (r .tightened) (r .rounds) ⌝ }
 {
-    let n = s.count as usize;
-    let mut all = true;
-    let mut k: usize = 0;
-    while k < n {
-        let f = s.flows[k];
-        let x = bound[k];
-        all = both(all, f.deadline.keeps(x));
-        k += 1;
+    let m = s.map.ways();
+    let none = [0u16; Flow::MOST];
+    let basic = values::values(
+        s.count as usize,
+        m,
+        conflict,
+        remainder,
+        work,
+        deadline,
+        whole_conflict,
+        whole_work,
+        &none,
+    );
+    let end = rounds::rounds(
+        s,
+        conflict,
+        remainder,
+        work,
+        deadline,
+        whole_conflict,
+        whole_work,
+    );
+    let gone = end.gone;
+    let tightened = values::values(
+        s.count as usize,
+        m,
+        conflict,
+        remainder,
+        work,
+        deadline,
+        whole_conflict,
+        whole_work,
+        &gone,
+    );
+    Judged {
+        basic,
+        tightened,
+        rounds: end.rounds,
     }
-    all
 }
 
-// The verdicts of both tests and the number of rounds, from the bounds of all flows; zeros and "no" for a set that the record check
-// refuses.
-pub fn verdict_of(s: FlowSet, j: AllBounds) -> Verdict
-    requires { ⌜ AllBoundsOf (used s) j ⌝ }
-    ensures { λ r. ⌜ r ≡ verdictOf (used s) ⌝ }
+// Both tests of an accepted set. The basic bound is the equation's value at v = D.
+fn judge(s: FlowSet) -> Judged
+    requires { ⌜ good (recordFault (used s) .refusal) ≡ true ⌝ }
+    ensures { λ r. ⌜ JudgedAs (used s) (r .basic) (r .tightened) (r .rounds) ⌝ }
 {
-    let fault = j.fault;
+    let mut conflict = [0u16; grid::PAIRS];
+    let mut remainder = [0u16; grid::PAIRS];
+    let mut work = [0u16; Flow::MOST];
+    let mut deadline = [0u16; Flow::MOST];
+    let mut whole_conflict = [0u32; Flow::MOST];
+    let mut whole_work = [0u32; Flow::MOST];
+    shares::tabulate(
+        s,
+        &mut conflict,
+        &mut remainder,
+        &mut work,
+        &mut deadline,
+        &mut whole_conflict,
+        &mut whole_work,
+    );
+    judge_by(
+        s,
+        &conflict,
+        &remainder,
+        &work,
+        &deadline,
+        &whole_conflict,
+        &whole_work,
+    )
+}
+
+// Nothing is refused.
+fn no_fault() -> Fault
+    ensures { λ r. ⌜ r ≡ noFault ⌝ }
+{
+    Fault {
+        refusal: Refusal::Nothing,
+        line: 0,
+    }
+}
+
+// What `bounds` and `verdict` answer for all flows at once, the rounds made once; zeros for a set that the record check refuses.
+pub fn all_bounds(s: FlowSet) -> AllBounds
+    ensures { λ r. ⌜ AllBoundsOf (used s) r ⌝ }
+{
+    let fault = rules::record_fault(s);
     let refusal = fault.refusal;
     if refusal.code() != 0 {
-        return Verdict {
+        return AllBounds {
             fault,
-            basic: false,
-            tightened: false,
+            basic: [0; Flow::MOST],
+            tightened: [0; Flow::MOST],
             rounds: 0,
         };
     }
+    let j = judge(s);
     let basic = j.basic;
     let tightened = j.tightened;
-    Verdict {
-        fault,
-        basic: admits(s, basic),
-        tightened: admits(s, tightened),
+    AllBounds {
+        fault: no_fault(),
+        basic,
+        tightened,
         rounds: j.rounds,
     }
 }
@@ -71,76 +148,14 @@ pub fn verdict_of(s: FlowSet, j: AllBounds) -> Verdict
 pub fn verdict(s: FlowSet) -> Verdict
     ensures { λ r. ⌜ r ≡ verdictOf (used s) ⌝ }
 {
-    let j = rounds::all_bounds(s);
-    verdict_of(s, j)
-}
-
-// Deadline less tightened bound, signed.
-fn margin(deadline: u16, bound: u32) -> i32
-    requires { ⌜ bound ≤ 272691135 ⌝ }
-    ensures { λ r. ⌜ r ≡ pos deadline -ℤ pos bound ⌝ }
-{
-    (deadline as i32) - (bound as i32)
-}
-
-// A refused bound is zeros throughout.
-fn refused(fault: Fault) -> Bounds
-    ensures { λ r. ⌜ r ≡ refusedBounds fault ⌝ }
-{
-    Bounds {
-        fault,
-        work: 0,
-        basic: 0,
-        tightened: 0,
-        deadline: Span(0),
-        margin: 0,
-    }
-}
-
-// One flow's bounds, from those of all.
-fn bounds_at(s: FlowSet, k: usize, j: AllBounds) -> Bounds
-    requires { ⌜ good (recordFault (used s) .refusal) ≡ true ⌝ }
-    requires { ⌜ (k < s .count) × AllBoundsOf (used s) j ⌝ }
-    ensures { λ r. ⌜ r ≡ boundsIf (used s) k true ⌝ }
-{
-    let f = s.flows[k];
-    let basic = j.basic[k];
-    let tightened = j.tightened[k];
-    let deadline = f.deadline;
-    let fault = j.fault;
-    Bounds {
-        fault,
-        work: f.work(),
-        basic,
-        tightened,
-        deadline,
-        margin: margin(deadline.0, tightened),
-    }
-}
-
-// C, both bounds, deadline and margin of one flow, from the bounds of all. The record check's refusals come first, then 13.
-pub fn bounds_of(s: FlowSet, k: u16, j: AllBounds) -> Bounds
-    requires { ⌜ AllBoundsOf (used s) j ⌝ }
-    ensures { λ r. ⌜ r ≡ boundsOf (used s) k ⌝ }
-{
-    let fault = j.fault;
-    let refusal = fault.refusal;
-    if refusal.code() != 0 {
-        return refused(fault);
-    }
-    if s.count <= k {
-        return refused(Fault {
-            refusal: Refusal::NoSuchFlow,
-            line: 0,
-        });
-    }
-    bounds_at(s, k as usize, j)
+    let j = all_bounds(s);
+    verdicts::verdict_of(s, j)
 }
 
 // C, both bounds, deadline and margin of one flow.
 pub fn bounds(s: FlowSet, k: u16) -> Bounds
     ensures { λ r. ⌜ r ≡ boundsOf (used s) k ⌝ }
 {
-    let j = rounds::all_bounds(s);
-    bounds_of(s, k, j)
+    let j = all_bounds(s);
+    flow_bounds::bounds_of(s, k, j)
 }

@@ -2,11 +2,11 @@
 // from the contracts alone, since nothing else is seen from here. Here: the two delay tests.
 ghost use mathlib.Core.Path.{_≡_};
 ghost use Rattle.model.specs.Sets.{used};
-ghost use Rattle.rounds.specs.Answers.{AllBoundsOf};
+ghost use Rattle.bounds.specs.Answers.{AllBoundsOf};
+use bounds::AllBounds;
 use model::Bounds;
 use model::FlowSet;
 use model::Verdict;
-use rounds::AllBounds;
 
 pub struct TwoAllBounds(pub AllBounds, pub AllBounds);
 
@@ -17,8 +17,8 @@ pub struct TwoBounds(pub Bounds, pub Bounds);
 pub fn all_bounds(s: FlowSet) -> TwoAllBounds
     ensures { λ r. ⌜ r .0 ≡ r .1 ⌝ }
 {
-    let a = rounds::all_bounds(s);
-    let b = rounds::all_bounds(s);
+    let a = delay::all_bounds(s);
+    let b = delay::all_bounds(s);
     TwoAllBounds(a, b)
 }
 
@@ -26,8 +26,8 @@ pub fn verdict_of(s: FlowSet, j: AllBounds) -> TwoVerdict
     requires { ⌜ AllBoundsOf (used s) j ⌝ }
     ensures { λ r. ⌜ r .0 ≡ r .1 ⌝ }
 {
-    let a = delay::verdict_of(s, j);
-    let b = delay::verdict_of(s, j);
+    let a = verdicts::verdict_of(s, j);
+    let b = verdicts::verdict_of(s, j);
     TwoVerdict(a, b)
 }
 
@@ -43,8 +43,8 @@ pub fn bounds_of(s: FlowSet, k: u16, j: AllBounds) -> TwoBounds
     requires { ⌜ AllBoundsOf (used s) j ⌝ }
     ensures { λ r. ⌜ r .0 ≡ r .1 ⌝ }
 {
-    let a = delay::bounds_of(s, k, j);
-    let b = delay::bounds_of(s, k, j);
+    let a = flow_bounds::bounds_of(s, k, j);
+    let b = flow_bounds::bounds_of(s, k, j);
     TwoBounds(a, b)
 }
 

@@ -39,25 +39,65 @@ pub struct TwoRan(pub Ran, pub Ran);
 pub fn wide(x: u16) -> TwoPlaces
     ensures { λ r. ⌜ r .0 ≡ r .1 ⌝ }
 {
-    let a = index::wide(x);
-    let b = index::wide(x);
+    let a = arithmetic::wide(x);
+    let b = arithmetic::wide(x);
     TwoPlaces(a, b)
 }
 
 pub fn bounded(x: u16) -> TwoU16
     ensures { λ r. ⌜ r .0 ≡ r .1 ⌝ }
 {
-    let a = division::bounded(x);
-    let b = division::bounded(x);
+    let a = arithmetic::bounded(x);
+    let b = arithmetic::bounded(x);
     TwoU16(a, b)
 }
 
 pub fn less(x: u16, y: u16) -> TwoU16
     ensures { λ r. ⌜ r .0 ≡ r .1 ⌝ }
 {
-    let a = equation::less(x, y);
-    let b = equation::less(x, y);
+    let a = arithmetic::less(x, y);
+    let b = arithmetic::less(x, y);
     TwoU16(a, b)
+}
+
+pub fn least(x: u16, y: u16) -> TwoU16
+    ensures { λ r. ⌜ r .0 ≡ r .1 ⌝ }
+{
+    let a = arithmetic::least(x, y);
+    let b = arithmetic::least(x, y);
+    TwoU16(a, b)
+}
+
+pub fn larger(x: u8, y: u8) -> TwoU8
+    ensures { λ r. ⌜ r .0 ≡ r .1 ⌝ }
+{
+    let a = arithmetic::larger(x, y);
+    let b = arithmetic::larger(x, y);
+    TwoU8(a, b)
+}
+
+pub fn fall(deadline: u16, value: u32) -> TwoU16
+    ensures { λ r. ⌜ r .0 ≡ r .1 ⌝ }
+{
+    let a = arithmetic::fall(deadline, value);
+    let b = arithmetic::fall(deadline, value);
+    TwoU16(a, b)
+}
+
+pub fn search_from(n: usize, m: &[u8; 256], node: u16) -> TwoPlaces
+    ensures { λ r. ⌜ r .0 ≡ r .1 ⌝ }
+{
+    let a = marks::search_from(n, m, node);
+    let b = marks::search_from(n, m, node);
+    TwoPlaces(a, b)
+}
+
+pub fn row_of(rows: &[u16; node_rows::NODES], node: u16) -> TwoPlaces
+    ensures { λ r. ⌜ r .0 ≡ r .1 ⌝ }
+{
+    let a = index::row_of(rows, node);
+    let b = index::row_of(rows, node);
+    TwoPlaces(a, b)
 }
 
 pub fn due_of(first: u32, period: u32, deadline: u32, t: u32) -> TwoU32

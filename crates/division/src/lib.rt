@@ -1,19 +1,12 @@
 // The flows' numbers in arrays, and q and r of document 01's delay tests: a deadline divided by every period.
 ghost use mathlib.Core.Path.{_≡_};
-ghost use Prim.Native.Nat.{ℕ, _/_, _%_, _≤_, _<_};
+ghost use Prim.Native.Nat.{ℕ, _≤_, _<_};
 ghost use lib.ListN.{length, getD};
 ghost use Rattle.model.specs.Sets.{used};
 ghost use Rattle.laws.specs.Accepted.{Accepted};
 ghost use Rattle.division.specs.Divided.{NumbersTo, Divided};
 use model::Flow;
 use model::FlowSet;
-
-// A 16-bit number, with the bound that it has by its width.
-pub fn bounded(x: u16) -> u16
-    ensures { λ r. ⌜ (r ≡ x) × (r ≤ 65535) ⌝ }
-{
-    x
-}
 
 // T, D and C of every flow.
 pub fn numbers(
@@ -30,26 +23,10 @@ pub fn numbers(
     while k < n {
         let f = s.flows[k];
         period[k] = f.period.0;
-        deadline[k] = bounded(f.deadline.0);
+        deadline[k] = arithmetic::bounded(f.deadline.0);
         work[k] = f.work() as u16;
         k += 1;
     }
-}
-
-// q: how many whole periods a deadline has.
-fn quotient(deadline: u16, period: u16) -> u16
-    requires { ⌜ (0 < deadline) × (0 < period) ⌝ }
-    ensures { λ r. ⌜ r ≡ deadline / period ⌝ }
-{
-    deadline / period
-}
-
-// r: what is left of it.
-fn left_over(deadline: u16, period: u16) -> u16
-    requires { ⌜ (0 < deadline) × (0 < period) ⌝ }
-    ensures { λ r. ⌜ r ≡ deadline % period ⌝ }
-{
-    deadline % period
 }
 
 // q and r of a deadline and the first n periods, r in row k.
@@ -59,7 +36,7 @@ pub fn divide(
     deadline: u16,
     period: &[u16; Flow::MOST],
     q: &mut [u16; Flow::MOST],
-    remainder: &mut [u16; conflict::PAIRS],
+    remainder: &mut [u16; grid::PAIRS],
 )
     requires { ⌜ (k < n) × (n ≤ 64) × (0 < deadline) × ((l : ℕ) → l < n → 0 < getD (now period) l 0) ⌝ }
     requires { ⌜ (length (now q) ≡ 64) × (length (now remainder) ≡ 4096) ⌝ }
@@ -67,8 +44,8 @@ pub fn divide(
 {
     let mut l: usize = 0;
     while l < n {
-        q[l] = quotient(deadline, period[l]);
-        remainder[k * Flow::MOST + l] = left_over(deadline, period[l]);
+        q[l] = quotients::quotient(deadline, period[l]);
+        remainder[k * Flow::MOST + l] = quotients::left_over(deadline, period[l]);
         l += 1;
     }
 }

@@ -1,27 +1,10 @@
 // The equation of document 01's tightened delay test: its value for a flow, from the tables.
 ghost use mathlib.Core.Path.{_≡_};
-ghost use Prim.Native.Nat.{_-_, _≤_, _<_, min};
-ghost use Rattle.model.specs.Delay.{joined};
-ghost use Rattle.shares.specs.Tables.{tablesOf};
-ghost use Rattle.shares.specs.Rows.{SmallRow};
-ghost use Rattle.equation.specs.Rows.{conflictRow, workRow, tableValue, Ordered};
+ghost use Prim.Native.Nat.{_≤_, _<_};
+ghost use Rattle.tables.specs.Tables.{tablesOf};
+ghost use Rattle.tables.specs.Rows.{SmallRow};
+ghost use Rattle.tables.specs.Sums.{conflictRow, workRow, tableValue, Ordered};
 use model::Flow;
-
-// a − b, or 0 where that would be below it.
-pub fn less(a: u16, b: u16) -> u16
-    ensures { λ r. ⌜ r ≡ a - b ⌝ }
-{
-    if a < b {
-        return 0;
-    }
-    a - b
-}
-
-fn least(a: u16, b: u16) -> u16
-    ensures { λ r. ⌜ r ≡ min a b ⌝ }
-{
-    if a < b { a } else { b }
-}
 
 // What a list adds to Σ q·S and to Σ q·C of a flow.
 struct Added {
@@ -33,8 +16,8 @@ struct Added {
 // most 64, so 16 bits hold them, and eight places are added at a time.
 fn add_up(
     k: usize,
-    conflict: &[u16; conflict::PAIRS],
-    remainder: &[u16; conflict::PAIRS],
+    conflict: &[u16; grid::PAIRS],
+    remainder: &[u16; grid::PAIRS],
     work: &[u16; Flow::MOST],
     gone: &[u16; Flow::MOST],
 ) -> Added
@@ -47,9 +30,9 @@ fn add_up(
     let mut w: u16 = 0;
     let mut l: usize = 0;
     while l < Flow::MOST {
-        let y = less(remainder[row + l], gone[l]);
-        x += least(conflict[row + l], y);
-        w += least(work[l], y);
+        let y = arithmetic::less(remainder[row + l], gone[l]);
+        x += arithmetic::least(conflict[row + l], y);
+        w += arithmetic::least(work[l], y);
         l += 1;
     }
     Added {
@@ -58,20 +41,12 @@ fn add_up(
     }
 }
 
-// C + ΣX + (ΣW − ΣX) / m: the one division, after both sums.
-fn join(c: u16, x: u32, w: u32, m: u32) -> u32
-    requires { ⌜ (x ≤ w) × (w ≤ 272625600) × (0 < m) ⌝ }
-    ensures { λ r. ⌜ (r ≡ joined c x w m) × (r ≤ 272691135) ⌝ }
-{
-    (c as u32) + x + (w - x) / m
-}
-
 // The equation's value for flow k, where entry l of `gone` is D − v of flow l.
 pub fn value<'a>(
     k: usize,
     m: u32,
-    conflict: &'a [u16; conflict::PAIRS],
-    remainder: &'a [u16; conflict::PAIRS],
+    conflict: &'a [u16; grid::PAIRS],
+    remainder: &'a [u16; grid::PAIRS],
     work: &'a [u16; Flow::MOST],
     deadline: &'a [u16; Flow::MOST],
     whole_conflict: &'a [u32; Flow::MOST],
@@ -85,5 +60,5 @@ pub fn value<'a>(
     let more = add_up(k, conflict, remainder, work, gone);
     let x = whole_conflict[k] + more.conflict as u32;
     let w = whole_work[k] + more.work as u32;
-    join(work[k], x, w, m)
+    quotients::join(work[k], x, w, m)
 }

@@ -1,39 +1,16 @@
 // How many of a flow's links have an end on each route, by the index of nodes.
 ghost use mathlib.Core.Path.{_≡_};
-ghost use Prim.Native.Nat.{ℕ, _-_, _≤_, _<_, max};
+ghost use Prim.Native.Nat.{ℕ, _-_, _≤_};
 ghost use lib.ListN.{length, getD};
-ghost use Rattle.index.specs.Index.{Placed};
-ghost use Rattle.links.specs.Met.{Added, Met};
+ghost use Rattle.node_rows.specs.Index.{Placed};
+ghost use Rattle.index.specs.Met.{Met};
 use model::Flow;
-
-// The larger of two marks: an end of a link is enough.
-fn larger(a: u8, b: u8) -> u8
-    ensures { λ r. ⌜ r ≡ max a b ⌝ }
-{
-    if a < b { b } else { a }
-}
-
-// One more for each flow whose route has an end of a link, the ends' rows being a and b.
-fn add_link(a: usize, b: usize, users: &[u8; index::USERS], touched: &mut [u8; Flow::MOST])
-    requires { ⌜ (a ≤ 1088) × (b ≤ 1088) × (length (now touched) ≡ 64) ⌝ }
-    requires { ⌜ ((i : ℕ) → getD (now users) i 0 ≤ 1) × ((k : ℕ) → getD (now touched) k 0 ≤ 16) ⌝ }
-    ensures { λ r. ⌜ Added (now (users .entry)) a b 64 (now (touched .entry)) (now (touched .exit)) ⌝ }
-{
-    let first = a * Flow::MOST;
-    let second = b * Flow::MOST;
-    let mut k: usize = 0;
-    while k < Flow::MOST {
-        let old = touched[k];
-        touched[k] = old + larger(users[first + k], users[second + k]);
-        k += 1;
-    }
-}
 
 // For each flow, how many of l's links have an end on its route.
 pub fn touch(
     l: Flow,
-    rows: &[u16; index::NODES],
-    users: &[u8; index::USERS],
+    rows: &[u16; node_rows::NODES],
+    users: &[u8; node_rows::USERS],
     touched: &mut [u8; Flow::MOST],
 )
     requires { ⌜ (2 ≤ l .nodes) × (l .nodes ≤ 17) × Placed (now rows) 1088 × ((i : ℕ) → getD (now users) i 0 ≤ 1) ⌝ }
@@ -43,11 +20,9 @@ pub fn touch(
     let n = l.links() as usize;
     let mut i: usize = 0;
     while i < n {
-        let from = index::wide(l.route[i]);
-        let to = index::wide(l.route[i + 1]);
-        let a = index::wide(rows[from]);
-        let b = index::wide(rows[to]);
-        add_link(a, b, users, touched);
+        let a = index::row_of(rows, l.route[i]);
+        let b = index::row_of(rows, l.route[i + 1]);
+        index::add_link(a, b, users, touched);
         i += 1;
     }
 }

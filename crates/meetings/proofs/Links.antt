@@ -17,11 +17,11 @@ use Rattle.model.specs.Sets.{flowAt, memb, meet, exact, used}
 use Rattle.model.specs.Delay.{links, touches, conflictWork}
 use Rattle.laws.specs.Sums.{sum-next, sum-ext, sum-zero}
 use Rattle.laws.specs.Used.{used-flow}
-use Rattle.conflict.specs.Grid.{pairAt, conflictOf, RowsTo}
-use Rattle.conflict.proofs.Fill.{zeros}
-use Rattle.conflict.proofs.Routes.{meet-ends}
-use Rattle.index.specs.Index.{Rowed, PlacedTo, UsersTo}
-use Rattle.links.specs.Met.{either, metTo}
+use Rattle.grid.specs.Grid.{pairAt, conflictOf, RowsTo}
+use Rattle.grid.proofs.Fill.{zeros}
+use Rattle.marks.proofs.Routes.{meet-ends}
+use Rattle.node_rows.specs.Index.{Rowed, PlacedTo, UsersTo}
+use Rattle.index.specs.Met.{either, metTo}
 use Rattle.meetings.specs.Columns.{ColumnDone, ColumnsTo}
 
 -- one row more of a column

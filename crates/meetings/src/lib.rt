@@ -4,10 +4,10 @@ ghost use Prim.Native.Nat.{ℕ, _*_, _-_, _≤_, _<_};
 ghost use lib.ListN.{length, getD};
 ghost use Rattle.model.specs.Sets.{used};
 ghost use Rattle.laws.specs.Accepted.{Accepted};
-ghost use Rattle.conflict.specs.Grid.{conflictOf, RowsTo};
-ghost use Rattle.index.specs.Index.{Placed, PlacedTo, UsersTo};
+ghost use Rattle.grid.specs.Grid.{conflictOf, RowsTo};
+ghost use Rattle.node_rows.specs.Index.{Placed, PlacedTo, UsersTo};
 ghost use Rattle.meetings.specs.Columns.{ColumnDone};
-ghost use Rattle.links.specs.Met.{metTo};
+ghost use Rattle.index.specs.Met.{metTo};
 use model::Flow;
 use model::FlowSet;
 
@@ -17,7 +17,7 @@ fn put_column(
     l: usize,
     tries: u16,
     touched: &[u8; Flow::MOST],
-    t: &mut [u16; conflict::PAIRS],
+    t: &mut [u16; grid::PAIRS],
 )
     requires { ⌜ (n ≤ 64) × (l < 64) × (tries ≤ 4) × (length (now t) ≡ 4096) × ((k : ℕ) → getD (now touched) k 0 ≤ 16) ⌝ }
     ensures { λ r. ⌜ ColumnDone (λ k. tries * getD (now (touched .entry)) k 0) n l (now (t .entry)) (now (t .exit)) ⌝ }
@@ -42,9 +42,9 @@ fn meet(
     n: usize,
     at: usize,
     l: Flow,
-    rows: &[u16; index::NODES],
-    users: &[u8; index::USERS],
-    t: &mut [u16; conflict::PAIRS],
+    rows: &[u16; node_rows::NODES],
+    users: &[u8; node_rows::USERS],
+    t: &mut [u16; grid::PAIRS],
 )
     requires { ⌜ (n ≤ 64) × (at < 64) × (2 ≤ l .nodes) × (l .nodes ≤ 17) × (l .tries ≤ 4) × (length (now t) ≡ 4096) ⌝ }
     requires { ⌜ Placed (now rows) 1088 × ((i : ℕ) → getD (now users) i 0 ≤ 1) ⌝ }
@@ -59,9 +59,9 @@ fn meet(
 // S of every pair, by the index of nodes.
 fn by_index(
     s: FlowSet,
-    rows: &[u16; index::NODES],
-    users: &[u8; index::USERS],
-    t: &mut [u16; conflict::PAIRS],
+    rows: &[u16; node_rows::NODES],
+    users: &[u8; node_rows::USERS],
+    t: &mut [u16; grid::PAIRS],
 )
     requires { ⌜ Accepted (used s) × RowsTo (conflictOf (used s)) (s .count) 0 (now t) ⌝ }
     requires { ⌜ PlacedTo s (s .count) (now rows) × UsersTo s (now rows) (s .count) (now users) ⌝ }
@@ -77,12 +77,12 @@ fn by_index(
 }
 
 // The index is made and used.
-fn many(s: FlowSet, t: &mut [u16; conflict::PAIRS])
+fn many(s: FlowSet, t: &mut [u16; grid::PAIRS])
     requires { ⌜ Accepted (used s) × RowsTo (conflictOf (used s)) (s .count) 0 (now t) ⌝ }
     ensures { λ r. ⌜ RowsTo (conflictOf (used s)) (s .count) (s .count) (now (t .exit)) ⌝ }
 {
-    let mut rows = [0u16; index::NODES];
-    let mut users = [0u8; index::USERS];
+    let mut rows = [0u16; node_rows::NODES];
+    let mut users = [0u8; node_rows::USERS];
     index::place(s, &mut rows);
     index::mark(s, &rows, &mut users);
     by_index(s, &rows, &users, t);
@@ -92,7 +92,7 @@ fn many(s: FlowSet, t: &mut [u16; conflict::PAIRS])
 const MANY: u16 = 10;
 
 // S of every pair. Both ways give the same numbers; which is faster depends on the number of flows.
-pub fn conflicts(s: FlowSet, t: &mut [u16; conflict::PAIRS])
+pub fn conflicts(s: FlowSet, t: &mut [u16; grid::PAIRS])
     requires { ⌜ Accepted (used s) × RowsTo (conflictOf (used s)) (s .count) 0 (now t) ⌝ }
     ensures { λ r. ⌜ RowsTo (conflictOf (used s)) (s .count) (s .count) (now (t .exit)) ⌝ }
 {

@@ -7,13 +7,13 @@ ghost use Rattle.model.specs.Sets.{used};
 ghost use Rattle.model.specs.Reader.{recordFault};
 ghost use Rattle.model.specs.Program.{boundLines, runLines, planOf};
 ghost use Rattle.puts.specs.Stores.{Put};
-ghost use Rattle.rounds.specs.Answers.{AllBoundsOf};
+ghost use Rattle.bounds.specs.Answers.{AllBoundsOf};
+use bounds::AllBounds;
 use model::FlowSet;
 use model::State;
 use printing::put_bound;
 use printing::put_sends;
 use printing::put_verdict;
-use rounds::AllBounds;
 
 // The `bound` lines of a set's flows, from the bounds of all.
 fn put_bounds(out: &mut [u8], at: usize, s: FlowSet, j: AllBounds) -> usize
@@ -24,7 +24,7 @@ fn put_bounds(out: &mut [u8], at: usize, s: FlowSet, j: AllBounds) -> usize
     let mut place = at;
     let mut k: u16 = 0;
     while k < n {
-        let b = delay::bounds_of(s, k, j);
+        let b = flow_bounds::bounds_of(s, k, j);
         place = put_bound(out, place, k, b);
         k += 1;
     }
@@ -55,8 +55,8 @@ pub fn put_plan(out: &mut [u8], s: FlowSet) -> usize
     requires { ⌜ recordFault (used s) ≡ noFault ⌝ }
     ensures { λ r. ⌜ Put (now (out .entry)) 0 (planOf (used s)) (now (out .exit)) r × (length (planOf (used s)) ≤ 18432) ⌝ }
 {
-    let j = rounds::all_bounds(s);
-    let v = delay::verdict_of(s, j);
+    let j = delay::all_bounds(s);
+    let v = verdicts::verdict_of(s, j);
     let first = put_verdict(out, 0, v);
     let second = put_bounds(out, first, s, j);
     put_run(out, second, s)

@@ -1,75 +1,28 @@
 -- The tables, row by row, and that they are the set's.
-use mathlib.Core.Path.{_≡_, refl, sym, ap, ap₂, _∙_}
+use mathlib.Core.Path.{_≡_, refl, sym, ap₂, _∙_}
 use mathlib.Core.Bool.{Bool, true, false, cond}
 use mathlib.Core.List.{List}
-use mathlib.Core.Logic.{_⊎_, inl, inr, _≢_}
-use Prim.Native.Nat.{ℕ, zero, suc, _+_, _*_, _/_, _%_, _≤_, _<_}
+use mathlib.Core.Logic.{inl, inr}
+use Prim.Native.Nat.{ℕ, _+_, _*_, _/_, _%_, _≤_, _<_}
 use native.Mathlib.Nat.{le-trans, le-of-eq, zero-mul}
-use native.Mathlib.Decide.{decLe, ℕ-discrete}
+use native.Mathlib.Decide.{decLe}
 use native.Mathlib.Omega.{arith}
-use borrow.Author.Tests.{eq-eqb, ne-eqb}
 use lib.Dec.{eqb}
-use lib.ListN.{length, getD, set, replicate, length-set, length-replicate}
-use lib.Seq.{getD-set-same, getD-set-other}
+use lib.ListN.{getD, set, replicate, length-replicate}
 use Rattle.model.specs.declared.kinds.FlowSet.{FlowSet}
 use Rattle.model.specs.Limits.{mostFlows}
-use Rattle.model.specs.Sums.{sumTo}
 use Rattle.model.specs.Sets.{flowAt}
-use Rattle.model.specs.Delay.{period, deadline, workAt, wholePackets, overOthers}
+use Rattle.model.specs.Delay.{workAt, wholePackets, overOthers}
 use Rattle.laws.specs.Accepted.{Accepted}
-use Rattle.laws.specs.Sums.{sum-ext, sum-cut}
+use Rattle.laws.specs.Sums.{sum-ext}
 use Rattle.greatest.specs.Values.{conflict-le-work}
-use Rattle.conflict.specs.Grid.{pairAt, ofOther, conflictOf, RowsTo, RowDone, FilledTo}
-use Rattle.conflict.proofs.Checked.{work-small}
-use Rattle.conflict.proofs.Fill.{zeros, row-start, row-next, rows-start, rows-next, filled-start, filled-next}
-use Rattle.division.specs.Divided.{NumbersTo, Divided}
+use Rattle.grid.specs.Grid.{pairAt, ofOther, conflictOf, RowsTo, RowDone, FilledTo}
+use Rattle.grid.proofs.Checked.{work-small}
+use Rattle.grid.proofs.Fill.{zeros, rows-start, rows-next, filled-start, filled-next}
+use Rattle.division.specs.Divided.{NumbersTo}
 use Rattle.division.proofs.Parts.{numbers-start}
-use Rattle.shares.specs.Tables.{Tables, tablesOf, blankTables, remainderOf, wholeConflict, wholeWork, Tabled}
-use Rattle.shares.specs.Rows.{Short, remainderRow, wholeRow, SmallRow, RowsDone}
-
--- nothing of the flow itself
-own : (k l x y : ℕ) → (l ≡ k → y ≡ 0) → ((l ≡ k → ⊥) → y ≡ x) → y ≡ ofOther k l x
-own k l x y a b =
-    elim (ℕ-discrete l k) [
-      | yes e ↦ a e ∙ sym (ap (λ (c : Bool). cond c 0 x) (eq-eqb l k e))
-      | no n ↦ b n ∙ sym (ap (λ (c : Bool). cond c 0 x) (ne-eqb l k n))
-    ]
-
-module _ (k n d : ℕ) (p q u t v : List ℕ) (hk : k < n) (hn : n ≤ mostFlows) (o : Divided k n d p q u t v) where
-  abbrev qs : List ℕ
-  qs = set u k 0
-
-  pub own-short : Short n q → Short n qs
-  own-short s =
-      record { whole = length-set u k 0 ∙ o .whole; none = λ l h. getD-set-other u k l 0 0 (λ z. omega arith) ∙ o .kept l h ∙ s .none l h }
-
-  own-quotient : (l : ℕ) → l < n → getD qs l 0 ≡ ofOther k l (d / getD p l 0)
-  own-quotient l h =
-      let w = o .whole in
-      own k l (d / getD p l 0) (getD qs l 0) (λ e. rw e (getD-set-same u k 0 0 (omega arith)))
-      (λ a. getD-set-other u k l 0 0 a ∙ o .quotients l h)
-
-  pub own-row : RowDone (λ l. ofOther k l (d % getD p l 0)) n k t (set v (k * mostFlows + k) 0)
-  own-row =
-      let r = o .remainders in
-      let w = r .whole in
-      let at = k * mostFlows + k in
-      record {
-        whole = length-set v at 0 ∙ w;
-        row = λ l h. own k l (d % getD p l 0) (pairAt (set v at 0) k l) (λ e. rw e (getD-set-same v at 0 0 (omega arith)))
-            (λ a. getD-set-other v at (k * mostFlows + l) 0 0 (λ z. a (omega arith)) ∙ r .row l h);
-        kept = λ i l h b. getD-set-other v at (i * mostFlows + l) 0 0 (apart i l h b) ∙ r .kept i l h b;
-      }
-    where
-      apart : (i l : ℕ) → l < mostFlows → (i ≢ k) ⊎ (n ≤ l) → i * mostFlows + l ≢ k * mostFlows + k
-      apart i l h (inl a) = λ z. a (omega arith)
-      apart i l h (inr a) = λ z. omega arith
-
-  pub own-whole : Short n q → (f : ℕ → ℕ) → sumTo (λ l. getD qs l 0 * f l) mostFlows ≡ wholeRow d p n k f
-  unfolding wholeRow
-  own-whole s f =
-      sum-cut (λ l. getD qs l 0 * f l) n mostFlows hn (λ l a b. ap (λ (x : ℕ). x * f l) (own-short s .none l a) ∙ zero-mul (f l))
-      ∙ sum-ext (λ l. getD qs l 0 * f l) (λ l. ofOther k l (d / getD p l 0) * f l) n (λ l h. ap (λ (x : ℕ). x * f l) (own-quotient l h))
+use Rattle.tables.specs.Tables.{Tables, tablesOf, blankTables, wholeWork, Tabled}
+use Rattle.tables.specs.Rows.{Short, remainderRow, wholeRow, SmallRow, RowsDone}
 
 pub short-zeros : (n : ℕ) → Short n (replicate mostFlows 0)
 short-zeros n = record { whole = length-replicate {A = ℕ} mostFlows 0; none = λ l h. zeros mostFlows l }

@@ -7,11 +7,11 @@ use lib.ListN.{length, take}
 use Rattle.model.specs.Sets.{flowAt, used}
 use Rattle.model.specs.Delay.{links, conflictWork}
 use Rattle.laws.specs.Used.{used-flow}
-use Rattle.conflict.specs.Marks.{endsOn}
-use Rattle.conflict.specs.Grid.{RowDone, conflictOf}
-use Rattle.conflict.proofs.Checked.{good-at, count-at}
-use Rattle.conflict.proofs.Fill.{row-start, row-next}
-use Rattle.conflict.proofs.Routes.{work-ends}
+use Rattle.marks.specs.Marks.{endsOn}
+use Rattle.grid.specs.Grid.{RowDone, conflictOf}
+use Rattle.grid.proofs.Checked.{good-at, count-at}
+use Rattle.grid.proofs.Fill.{row-start, row-next}
+use Rattle.marks.proofs.Routes.{work-ends}
 use borrow.Author.Needs.{needs}
 use Rattle.conflict.proofs.conflict_row.Statement.{statement}
 use Rattle.conflict.proofs.conflict_row.Tie as tie

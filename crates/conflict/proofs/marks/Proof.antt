@@ -1,7 +1,7 @@
 -- `marks`: each node passed has its remainder marked, and no mark is ever taken back. Assumes nothing beyond its `requires`.
 use Prim.Native.Nat.{_-_, _≤_}
-use Rattle.conflict.specs.Marks.{Marked}
-use Rattle.conflict.proofs.Routes.{marked-next, marked-fewer}
+use Rattle.marks.specs.Marks.{Marked}
+use Rattle.marks.proofs.Routes.{marked-next, marked-fewer}
 use borrow.Author.Needs.{needs}
 use Rattle.conflict.proofs.marks.Statement.{statement}
 use Rattle.conflict.proofs.marks.Tie as tie

@@ -8,7 +8,7 @@ use Rattle.model.specs.declared.kinds.Flow.{Flow}
 use Rattle.model.specs.Sets.{used}
 use Rattle.model.specs.Delay.{work}
 use Rattle.laws.specs.Used.{used-flow}
-use Rattle.conflict.proofs.Checked.{good-at, count-at, work-small}
+use Rattle.grid.proofs.Checked.{good-at, count-at, work-small}
 use Rattle.division.specs.Divided.{NumbersTo}
 use Rattle.division.proofs.Parts.{numbers-next}
 use borrow.Author.Needs.{needs}

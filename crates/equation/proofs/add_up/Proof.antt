@@ -5,8 +5,8 @@ use native.Mathlib.Omega.{arith}
 use lib.ListN.{getD}
 use Rattle.model.specs.Sums.{sumTo}
 use Rattle.laws.specs.Sums.{sum-next, sum-zero}
-use Rattle.conflict.specs.Grid.{pairAt}
-use Rattle.equation.specs.Rows.{cutAt, conflictRow, workRow}
+use Rattle.grid.specs.Grid.{pairAt}
+use Rattle.tables.specs.Sums.{cutAt, conflictRow, workRow}
 use borrow.Author.Needs.{needs}
 use Rattle.equation.proofs.add_up.Statement.{statement}
 use Rattle.equation.proofs.add_up.Tie as tie

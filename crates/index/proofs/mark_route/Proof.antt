@@ -1,10 +1,10 @@
 -- `mark_route`: the column says of each node passed that it is on the route, and of no other so far. Assumes nothing beyond its `requires`.
-use mathlib.Core.Path.{_≡_, sym, ap, _∙_}
+use mathlib.Core.Path.{_≡_, refl, sym}
 use Prim.Native.Nat.{ℕ, _+_, _-_, _*_, _≤_, _<_}
 use native.Mathlib.Omega.{arith}
 use lib.ListN.{length, getD}
-use Rattle.index.specs.Index.{Placed, Rowed, Column, OtherColumns}
-use Rattle.index.proofs.Places.{place-lt, others-next, column-next, column-at}
+use Rattle.node_rows.specs.Index.{Placed, Rowed, Column, OtherColumns}
+use Rattle.node_rows.proofs.Places.{place-lt, others-next, column-next, column-at}
 use borrow.Author.Needs.{needs}
 use Rattle.index.proofs.mark_route.Statement.{statement}
 use Rattle.index.proofs.mark_route.Tie as tie
@@ -21,23 +21,14 @@ cast-n c = search needs
 loop-holds : tie.Need-loop-holds Inv-loop μ-loop
 loop-holds c = search needs
 
-mul-wide : tie.Need-mul-wide Inv-loop μ-loop
-mul-wide c = search needs
+mul-row-of : tie.Need-mul-row-of Inv-loop μ-loop
+mul-row-of c = search needs
 
-element-copy-out-wide : tie.Need-element-copy-out-wide Inv-loop μ-loop
-element-copy-out-wide c = search needs
+element-copy-out-row-of : tie.Need-element-copy-out-row-of Inv-loop μ-loop
+element-copy-out-row-of c = search needs
 
-wide-requires : tie.Need-wide-requires Inv-loop μ-loop
-wide-requires c κs = search needs
-
-mul-wide-2 : tie.Need-mul-wide-2 Inv-loop μ-loop
-mul-wide-2 c = search needs
-
-element-copy-out-wide-2 : tie.Need-element-copy-out-wide-2 Inv-loop μ-loop
-element-copy-out-wide-2 c = search needs
-
-wide-requires-2 : tie.Need-wide-requires-2 Inv-loop μ-loop
-wide-requires-2 c κs = search needs
+row-of-requires : tie.Need-row-of-requires Inv-loop μ-loop
+row-of-requires c κs = search needs
 
 mul-users : tie.Need-mul-users Inv-loop μ-loop
 mul-users c = search needs
@@ -47,8 +38,9 @@ add-users c = search needs
 
 element-write-users : tie.Need-element-write-users Inv-loop μ-loop
 element-write-users c =
-    let b = c .before .before .before .before .before .before in
-    omega (arith, place-lt (b .args .rows .now) (c .before .before .before .before .before .loop .users) (b .args .k) (c .before .before .wide .result) (b .pre .0 .1) (b .pre .0 .2) (c .before .before .before .before .before .loop .inv .3 .whole))
+    let w = c .before .before .before .loop in
+    let b = c .before .before .before .before in
+    omega (arith, c .row-of .ensures .0, place-lt (b .args .rows .now) (w .users) (b .args .k) (getD (b .args .t1 .route) (w .j) 0) (b .pre .0 .1) (b .pre .0 .2) (w .inv .3 .whole))
 
 add-j : tie.Need-add-j Inv-loop μ-loop
 add-j c = search needs
@@ -58,18 +50,16 @@ loop-less c = search needs
 
 loop-again : tie.Need-loop-again Inv-loop μ-loop
 loop-again c =
-    let w = c .before .before .before .before .before .loop in
-    let b = c .before .before .before .before .before .before in
-    let x = c .before .before .wide .result in
-    let e = c .before .before .wide .ensures .0 in
+    let w = c .before .before .before .loop in
+    let b = c .before .before .before .before in
     let f = b .args .t1 in
+    let x = getD (f .route) (w .j) 0 in
     let p = b .pre .0 in
     let o = w .inv .3 in
-    let h = c .before .before .before .before .loop-test .taken in
-    let i : getD (b .args .rows .now) x 0 ≡ c .wide2 .result = sym (c .wide2 .ensures .0) in
-    let q : 0 < getD (b .args .rows .now) x 0 = rw e (p .3 (w .j) h) in
+    let h = c .before .before .loop-test .taken in
+    let i : getD (b .args .rows .now) x 0 ≡ c .row-of .result = sym (c .row-of .ensures .0) in
     let a = others-next (b .args .rows .now) (w .users) (b .args .k) x (p .1) (p .2) (o .whole) _ o in
-    let d = column-next (b .args .rows .now) (w .users) (b .args .k) x (p .1) (p .2) (o .whole) (f .route) (w .j) (omega arith) e q (w .inv .4) in
+    let d = column-next (b .args .rows .now) (w .users) (b .args .k) x (p .1) (p .2) (o .whole) (f .route) (w .j) (omega arith) refl (p .3 (w .j) h) (w .inv .4) in
     (search needs, search needs, search needs, rw i at a, rw i at d)
 
 returns : tie.Need-returns Inv-loop μ-loop
@@ -86,12 +76,9 @@ mark-route-spec =
     μ-loop
     cast-n
     loop-holds
-    mul-wide
-    element-copy-out-wide
-    wide-requires
-    mul-wide-2
-    element-copy-out-wide-2
-    wide-requires-2
+    mul-row-of
+    element-copy-out-row-of
+    row-of-requires
     mul-users
     add-users
     element-write-users

@@ -2,9 +2,9 @@
 use mathlib.Core.Path.{_≡_}
 use Prim.Native.Nat.{_-_, _≤_}
 use native.Mathlib.Omega.{arith}
-use Rattle.conflict.proofs.Checked.{good-at, count-at}
-use Rattle.index.specs.Index.{PlacedTo}
-use Rattle.index.proofs.Places.{placed-flow}
+use Rattle.grid.proofs.Checked.{good-at, count-at}
+use Rattle.node_rows.specs.Index.{PlacedTo}
+use Rattle.node_rows.proofs.Places.{placed-flow}
 use borrow.Author.Needs.{needs}
 use Rattle.index.proofs.place.Statement.{statement}
 use Rattle.index.proofs.place.Tie as tie

@@ -1,12 +1,12 @@
 -- `touch`: the links so far are counted. Assumes nothing beyond its `requires`.
-use mathlib.Core.Path.{_≡_, sym, ap, ap₂, _∙_}
+use mathlib.Core.Path.{_≡_}
 use Prim.Native.Nat.{ℕ, _+_, _-_, _≤_, _<_}
-use native.Mathlib.Nat.{le-trans}
+use native.Mathlib.Nat.{le-trans, le-of-eq}
 use native.Mathlib.Omega.{arith}
 use lib.ListN.{length, getD}
 use Rattle.model.specs.Delay.{links}
-use Rattle.links.specs.Met.{Added, Met}
-use Rattle.links.proofs.Counts.{met-next, met-small}
+use Rattle.index.specs.Met.{Added, Met}
+use Rattle.index.proofs.Counts.{met-next, met-small}
 use borrow.Author.Needs.{needs}
 use Rattle.links.proofs.touch.Statement.{statement}
 use Rattle.links.proofs.touch.Tie as tie
@@ -26,55 +26,35 @@ cast-n c = search needs
 loop-holds : tie.Need-loop-holds Inv-loop μ-loop
 loop-holds c = search needs
 
-mul-wide : tie.Need-mul-wide Inv-loop μ-loop
-mul-wide c = search needs
+mul-row-of : tie.Need-mul-row-of Inv-loop μ-loop
+mul-row-of c = search needs
 
-element-copy-out-wide : tie.Need-element-copy-out-wide Inv-loop μ-loop
-element-copy-out-wide c = search needs
+element-copy-out-row-of : tie.Need-element-copy-out-row-of Inv-loop μ-loop
+element-copy-out-row-of c = search needs
 
-wide-requires : tie.Need-wide-requires Inv-loop μ-loop
-wide-requires c κs = search needs
+row-of-requires : tie.Need-row-of-requires Inv-loop μ-loop
+row-of-requires c κs = search needs
 
-add-wide : tie.Need-add-wide Inv-loop μ-loop
-add-wide c = search needs
+add-row-of : tie.Need-add-row-of Inv-loop μ-loop
+add-row-of c = search needs
 
-mul-wide-2 : tie.Need-mul-wide-2 Inv-loop μ-loop
-mul-wide-2 c = search needs
+mul-row-of-2 : tie.Need-mul-row-of-2 Inv-loop μ-loop
+mul-row-of-2 c = search needs
 
-element-copy-out-wide-2 : tie.Need-element-copy-out-wide-2 Inv-loop μ-loop
-element-copy-out-wide-2 c = search needs
+element-copy-out-row-of-2 : tie.Need-element-copy-out-row-of-2 Inv-loop μ-loop
+element-copy-out-row-of-2 c = search needs
 
-wide-requires-2 : tie.Need-wide-requires-2 Inv-loop μ-loop
-wide-requires-2 c κs = search needs
-
-mul-wide-3 : tie.Need-mul-wide-3 Inv-loop μ-loop
-mul-wide-3 c = search needs
-
-element-copy-out-wide-3 : tie.Need-element-copy-out-wide-3 Inv-loop μ-loop
-element-copy-out-wide-3 c = search needs
-
-wide-requires-3 : tie.Need-wide-requires-3 Inv-loop μ-loop
-wide-requires-3 c κs = search needs
-
-mul-wide-4 : tie.Need-mul-wide-4 Inv-loop μ-loop
-mul-wide-4 c = search needs
-
-element-copy-out-wide-4 : tie.Need-element-copy-out-wide-4 Inv-loop μ-loop
-element-copy-out-wide-4 c = search needs
-
-wide-requires-4 : tie.Need-wide-requires-4 Inv-loop μ-loop
-wide-requires-4 c κs = search needs
+row-of-requires-2 : tie.Need-row-of-requires-2 Inv-loop μ-loop
+row-of-requires-2 c κs = search needs
 
 add-link-requires : tie.Need-add-link-requires Inv-loop μ-loop
 add-link-requires c κs =
-    let w = c .before .before .before .before .before .before .before .before .before .before .loop in
-    let b = c .before .before .before .before .before .before .before .before .before .before .before .before in
+    let w = c .before .before .before .before .before .before .loop in
+    let b = c .before .before .before .before .before .before .before .before in
     let o = b .pre .0 .2 in
-    let x = o .below (c .before .before .before .before .before .before .before .wide .result) in
-    let y = o .below (c .before .before .before .before .before .wide2 .result) in
-    let e = c .before .before .before .wide3 .ensures .0 in
-    let f = c .before .wide4 .ensures .0 in
-    ((omega arith, omega arith, w .inv .3 .whole), (b .pre .0 .3, met-small _ _ _ (w .i) 16 _ (omega arith) (w .inv .3)))
+    let x = le-trans (le-of-eq (c .before .before .before .row-of .ensures .0)) (o .below _) in
+    let y = le-trans (le-of-eq (c .before .row-of2 .ensures .0)) (o .below _) in
+    ((x, y, w .inv .3 .whole), (b .pre .0 .3, met-small _ _ _ (w .i) 16 _ (omega arith) (w .inv .3)))
 
 add-i : tie.Need-add-i Inv-loop μ-loop
 add-i c = search needs
@@ -84,14 +64,15 @@ loop-less c = search needs
 
 loop-again : tie.Need-loop-again Inv-loop μ-loop
 loop-again c =
-    let w = c .before .before .before .before .before .before .before .before .before .before .before .loop in
-    let b = c .before .before .before .before .before .before .before .before .before .before .before .before .before in
-    let r = b .args .t1 .route in
-    let rows = b .args .rows .now in
-    let at : ℕ → ℕ = λ x. getD rows x 0 in
-    let e = c .before .before .before .before .wide3 .ensures .0 ∙ ap at (c .before .before .before .before .before .before .before .before .wide .ensures .0) in
-    let f = c .before .before .wide4 .ensures .0 ∙ ap at (c .before .before .before .before .before .before .wide2 .ensures .0) in
-    (search needs, search needs, search needs, met-next rows (b .args .users .now) r (w .i) (w .touched) _ (b .pre .0 .3) (w .inv .3) (rw (e, f) at (c .add-link .ensures)))
+    let w = c .before .before .before .before .before .before .before .loop in
+    let b = c .before .before .before .before .before .before .before .before .before in
+    let e = c .before .before .before .before .row-of .ensures .0 in
+    let f = c .before .before .row-of2 .ensures .0 in (
+      search needs,
+      search needs,
+      search needs,
+      met-next (b .args .rows .now) (b .args .users .now) (b .args .t1 .route) (w .i) (w .touched) _ (b .pre .0 .3) (w .inv .3) (rw (e, f) at (c .add-link .ensures)),
+    )
 
 returns : tie.Need-returns Inv-loop μ-loop
 returns c =
@@ -108,19 +89,13 @@ touch-spec =
     links-requires
     cast-n
     loop-holds
-    mul-wide
-    element-copy-out-wide
-    wide-requires
-    add-wide
-    mul-wide-2
-    element-copy-out-wide-2
-    wide-requires-2
-    mul-wide-3
-    element-copy-out-wide-3
-    wide-requires-3
-    mul-wide-4
-    element-copy-out-wide-4
-    wide-requires-4
+    mul-row-of
+    element-copy-out-row-of
+    row-of-requires
+    add-row-of
+    mul-row-of-2
+    element-copy-out-row-of-2
+    row-of-requires-2
     add-link-requires
     add-i
     loop-less

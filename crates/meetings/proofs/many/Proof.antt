@@ -1,5 +1,5 @@
 -- `many`: first the nodes' rows, then the flows in them, then the links. Assumes nothing beyond its `requires`.
-use Rattle.index.proofs.Places.{placed-start, users-start}
+use Rattle.node_rows.proofs.Places.{placed-start, users-start}
 use borrow.Author.Needs.{needs}
 use Rattle.meetings.proofs.many.Statement.{statement}
 use Rattle.meetings.proofs.many.Tie as tie

@@ -2,7 +2,7 @@
 use mathlib.Core.Path.{ap}
 use Prim.Native.Nat.{ℕ, _-_, _*_, _≤_, _<_}
 use native.Mathlib.Omega.{arith}
-use Rattle.links.proofs.Counts.{met-start, met-small}
+use Rattle.index.proofs.Counts.{met-start, met-small}
 use Rattle.meetings.proofs.Links.{column-ext}
 use borrow.Author.Needs.{needs}
 use Rattle.meetings.proofs.meet.Statement.{statement}

@@ -7,10 +7,10 @@ use native.Mathlib.Omega.{arith}
 use Rattle.model.specs.Sets.{used}
 use Rattle.model.specs.Delay.{mostRounds}
 use Rattle.greatest.specs.Rounds.{accepted-fits}
-use Rattle.equation.proofs.Carry.{fits-carried}
-use Rattle.rounds.specs.Steps.{leftOf, Below, Judges, Going}
-use Rattle.rounds.proofs.Turns.{going-start, going-next, most-small, deadlines-carried, none-gone}
-use Rattle.rounds.proofs.Results.{ones-pos}
+use Rattle.tables.proofs.Carry.{fits-carried}
+use Rattle.tables.specs.Steps.{leftOf, Below, Judges, Going}
+use Rattle.rounds.proofs.Going.{going-start, going-next, most-small, deadlines-carried, none-gone}
+use Rattle.grid.proofs.Checked.{ones-pos}
 use borrow.Author.Needs.{needs}
 use Rattle.rounds.proofs.rounds.Statement.{statement}
 use Rattle.rounds.proofs.rounds.Tie as tie

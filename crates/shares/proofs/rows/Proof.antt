@@ -2,7 +2,7 @@
 use mathlib.Core.Path.{_≡_}
 use Prim.Native.Nat.{ℕ, _-_, _≤_, _<_}
 use native.Mathlib.Omega.{arith}
-use Rattle.shares.specs.Rows.{Short, RowsDone}
+use Rattle.tables.specs.Rows.{Short, RowsDone}
 use Rattle.shares.proofs.Terms.{short-zeros, done-next}
 use borrow.Author.Needs.{needs}
 use Rattle.shares.proofs.rows.Statement.{statement}

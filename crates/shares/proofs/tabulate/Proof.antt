@@ -1,7 +1,7 @@
 -- `tabulate`: the flows' numbers, S, and the rows made of them. Assumes nothing beyond its `requires`.
 use mathlib.Core.Path.{_≡_}
 use Rattle.model.specs.Sets.{used}
-use Rattle.conflict.proofs.Checked.{count-at}
+use Rattle.grid.proofs.Checked.{count-at}
 use Rattle.shares.proofs.Terms.{numbers-lent, conflicts-lent, done-lent, small-rows, rows-pos, tabled}
 use borrow.Author.Needs.{needs}
 use Rattle.shares.proofs.tabulate.Statement.{statement}
