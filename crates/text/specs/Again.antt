@@ -23,12 +23,13 @@ use Rattle.model.specs.Reader.{mapFault, flowFault, recordFlowFault, flowsFault
 use Rattle.model.specs.Text.{setWord, flowWord, onto, lines, wellFormed, numbersOf, decimal, lineOf}
 use Rattle.laws.specs.Accepted.{GoodFlow, good-flow, good-flows, or-else-good}
 use Rattle.laws.specs.Sums.{and-l, and-r, and-i}
-use Rattle.lines.specs.Places.{line, after}
-use Rattle.lines.specs.Fields.{lines-line, line-after}
-use Rattle.puts.specs.Decimals.{decimal-one}
+use Rattle.digits.specs.Places.{line, after}
+use Rattle.numerals.specs.Fields.{lines-line, line-after}
+use Rattle.decimals.specs.Decimals.{decimal-one}
 use Rattle.puts.specs.Stores.{fieldsOf, line-parts}
 use Rattle.row_rules.specs.Pads.{pad-at, pad-take}
-use Rattle.reader.specs.Judging.{read-good, read-bad, first-good, first-bad, GoodLine, good-line, first-formed, judgedFlow}
+use Rattle.flow_lines.specs.Judging.{read-good, read-bad, GoodLine, good-line, judgedFlow}
+use Rattle.reader.specs.First.{first-good, first-bad, first-formed}
 use Rattle.text.specs.Numerals.{decimal-five}
 use Rattle.text.specs.Lines.{inside, small, Line, line-written, line-back, line-small}
 

@@ -16,7 +16,8 @@ use Rattle.model.specs.Sets.{noFlow, blankFlow, blankSet, flowAt}
 use Rattle.model.specs.Reader.{pad, flowOf, withFlow, firstLineFault, flowLineFault, readFlows, setOf, readLines, readText}
 use Rattle.model.specs.Text.{lines, numbersOf}
 use Rattle.row_rules.specs.Pads.{pad-at, pad-length}
-use Rattle.reader.specs.Judging.{read-good, read-bad, first-good, first-bad, good-line}
+use Rattle.flow_lines.specs.Judging.{read-good, read-bad, good-line}
+use Rattle.reader.specs.First.{first-good, first-bad}
 
 -- all entries that don't count are 0
 pub record Zeroed (t : FlowSet) : Type 0 where

@@ -10,12 +10,12 @@ use lib.Dec.{lit<}
 use lib.ListN.{take}
 use Rattle.model.specs.Reader.{twice}
 use Rattle.route_rules.specs.Route.{routeFault}
-use Rattle.route_rules.proofs.Nodes.{tests}
+use Rattle.repeats.proofs.Nodes.{tests}
 use Rattle.route_rules.proofs.route_fault.Statement.{statement}
 use Rattle.route_rules.proofs.route_fault.Tie as tie
 use Rattle.route_rules.proofs.route_fault.Reads as reads
 use Rattle.route_rules.proofs.route_fault.Lts as lts
-use Rattle.route_rules.proofs.repeats.Reads as repeats-reads
+use Rattle.repeats.proofs.repeats.Reads as repeats-reads
 
 returns : tie.Need-returns
 unfolding routeFault
