@@ -12,7 +12,7 @@ use Rattle.laws.specs.Sums.{and-l, and-r, and-i}
 use Rattle.digits.specs.Places.{first, more, line, after}
 use Rattle.numerals.specs.Fields.{Sep, is-tab, is-lf, within, sep, fields-parts, fields-within, first-within, more-within, ended-within, lines-line}
 use Rattle.puts.specs.Stores.{fieldsOf, tabbed-fields, line-parts}
-use Rattle.text.specs.Numerals.{numeral, decimal-number, value-decimal, number-decimal, decimal-five}
+use Rattle.round_trip.specs.Numerals.{numeral, decimal-number, value-decimal, number-decimal, decimal-five}
 
 -- every byte is of a field
 unfoldable pub inside : List ℕ → Bool

@@ -28,8 +28,8 @@ use Rattle.row_rules.specs.Pads.{pad-at, pad-take}
 use Rattle.flow_lines.specs.Judging.{read-good}
 use Rattle.reader.specs.First.{first-good}
 use Rattle.set_lines.specs.Lines.{used-length}
-use Rattle.text.specs.Lines.{inside, small, Line, line-written}
-use Rattle.text.specs.Again.{Room, room-with, room-first, used-with}
+use Rattle.round_trip.specs.Lines.{inside, small, Line, line-written}
+use Rattle.round_trip.specs.Again.{Room, room-with, room-first, used-with}
 
 -- a flow that is all of its record: its route has as many nodes as it says, and its numbers are of 16 bits
 pub record Whole (f : Flow) : Type 0 where

@@ -30,8 +30,8 @@ use Rattle.puts.specs.Stores.{fieldsOf, line-parts}
 use Rattle.row_rules.specs.Pads.{pad-at, pad-take}
 use Rattle.flow_lines.specs.Judging.{read-good, read-bad, GoodLine, good-line, judgedFlow}
 use Rattle.reader.specs.First.{first-good, first-bad, first-formed}
-use Rattle.text.specs.Numerals.{decimal-five}
-use Rattle.text.specs.Lines.{inside, small, Line, line-written, line-back, line-small}
+use Rattle.round_trip.specs.Numerals.{decimal-five}
+use Rattle.round_trip.specs.Lines.{inside, small, Line, line-written, line-back, line-small}
 
 -- the lines put together again
 unfoldable joined : List (List ℕ) → List ℕ

@@ -13,10 +13,10 @@ use Rattle.model.specs.Refusals.{good}
 use Rattle.model.specs.Sets.{noFlow, used, anyOf, SameSet}
 use Rattle.model.specs.Reader.{twice, flowFault, flowsFault, recordFault, flowNumbers, flowLines, readText, textOf}
 use Rattle.model.specs.Text.{decimalIn, decimal, tabbed, decimals, lineOf}
-use Rattle.text.specs.Again.{longestText, read-written, read-length}
-use Rattle.text.specs.Lines.{small}
-use Rattle.text.specs.Written.{Stored, written-read}
-use Rattle.text.specs.Zeros.{Zeroed, read-zeroed}
+use Rattle.round_trip.specs.Again.{longestText, read-written, read-length}
+use Rattle.round_trip.specs.Lines.{small}
+use Rattle.round_trip.specs.Written.{Stored, written-read}
+use Rattle.round_trip.specs.Zeros.{Zeroed, read-zeroed}
 
 -- (i) what is written of a set that passes the record check is read, without a fault, as the same set, and all other entries are 0
 pub record Returns (s : FlowSet) : Type 0 where
