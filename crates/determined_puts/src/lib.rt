@@ -5,19 +5,38 @@ ghost use mathlib.Core.Path.{_≡_};
 use model::Bounds;
 use model::ChannelMap;
 use model::Fault;
+use model::FlowSet;
 use model::Send;
 use model::State;
 use model::Verdict;
+use model::Written;
 
 pub struct TwoPlaces(pub usize, pub usize);
+
+pub struct TwoWritten(pub Written, pub Written);
 
 pub struct TwoStates(pub State, pub State);
 
 pub fn width(v: u32) -> TwoPlaces
     ensures { λ r. ⌜ r .0 ≡ r .1 ⌝ }
 {
-    let a = puts::width(v);
-    let b = puts::width(v);
+    let a = decimals::width(v);
+    let b = decimals::width(v);
+    TwoPlaces(a, b)
+}
+
+pub fn put_at(x: &mut [u8], y: &mut [u8], at: usize, b: u8)
+    ensures { λ r. ⌜ ((now (x .entry) ≡ now (y .entry)) → (now (x .exit) ≡ now (y .exit))) ⌝ }
+{
+    decimals::put_at(x, at, b);
+    decimals::put_at(y, at, b);
+}
+
+pub fn put_digits(x: &mut [u8], y: &mut [u8], at: usize, v: u32) -> TwoPlaces
+    ensures { λ r. ⌜ ((now (x .entry) ≡ now (y .entry)) → ((r .0 ≡ r .1) × (now (x .exit) ≡ now (y .exit)))) ⌝ }
+{
+    let a = decimals::put_digits(x, at, v);
+    let b = decimals::put_digits(y, at, v);
     TwoPlaces(a, b)
 }
 
@@ -67,6 +86,22 @@ pub fn put_line(x: &mut [u8], y: &mut [u8], at: usize, word: &[u8], numbers: &[u
     let a = puts::put_line(x, at, word, numbers);
     let b = puts::put_line(y, at, word, numbers);
     TwoPlaces(a, b)
+}
+
+pub fn put_set(x: &mut [u8], y: &mut [u8], at: usize, s: FlowSet) -> TwoPlaces
+    ensures { λ r. ⌜ ((now (x .entry) ≡ now (y .entry)) → ((r .0 ≡ r .1) × (now (x .exit) ≡ now (y .exit)))) ⌝ }
+{
+    let a = set_lines::put_set(x, at, s);
+    let b = set_lines::put_set(y, at, s);
+    TwoPlaces(a, b)
+}
+
+pub fn write_text(s: FlowSet, x: &mut [u8], y: &mut [u8]) -> TwoWritten
+    ensures { λ r. ⌜ ((now (x .entry) ≡ now (y .entry)) → ((r .0 ≡ r .1) × (now (x .exit) ≡ now (y .exit)))) ⌝ }
+{
+    let a = room::write_text(s, x);
+    let b = room::write_text(s, y);
+    TwoWritten(a, b)
 }
 
 pub fn put_refused(x: &mut [u8], y: &mut [u8], at: usize, fault: Fault) -> TwoPlaces

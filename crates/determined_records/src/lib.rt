@@ -160,6 +160,19 @@ pub fn route_fault(
     TwoRefusal(a, b)
 }
 
+pub fn tries_fault(
+    deadline: u16,
+    tries: u16,
+    nodes: usize,
+    route: [u16; Flow::MOST_NODES],
+) -> TwoRefusal
+    ensures { λ r. ⌜ r .0 ≡ r .1 ⌝ }
+{
+    let a = tries_rules::tries_fault(deadline, tries, nodes, route);
+    let b = tries_rules::tries_fault(deadline, tries, nodes, route);
+    TwoRefusal(a, b)
+}
+
 pub fn flow_fault(
     k: usize,
     period: u16,

@@ -4,7 +4,7 @@ ghost use lib.ListN.{take};
 ghost use Rattle.model.specs.Reader.{mapFault, flowFault};
 use model::Flow;
 use model::Refusal;
-use route_rules::route_fault;
+use tries_rules::tries_fault;
 
 // Rule 2.
 pub fn map_fault(bits: u16) -> Refusal
@@ -39,11 +39,5 @@ pub fn flow_fault(
     if period < deadline {
         return Refusal::BadDeadline;
     }
-    if tries == 0 {
-        return Refusal::BadTries;
-    }
-    if 4 < tries {
-        return Refusal::BadTries;
-    }
-    route_fault(deadline, tries, nodes, route)
+    tries_fault(deadline, tries, nodes, route)
 }

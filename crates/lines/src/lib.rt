@@ -2,8 +2,6 @@
 // rules.
 mod reading;
 
-pub use reading::NumberRead;
 pub use reading::Row;
 pub use reading::line_at;
-pub use reading::number_at;
 pub use reading::numbers_at;

@@ -1,18 +1,13 @@
-// What stands at a place of a text: a byte, a number, a line of numbers.
+// What stands at a place of a text: a line of a word and numbers.
 ghost use mathlib.Core.Path.{_≡_};
 ghost use mathlib.Core.List.{[]};
-ghost use Prim.Native.Nat.{_≤_};
-ghost use lib.ListN.{drop, getD};
-ghost use Rattle.lines.specs.Answers.{noRow, numberIn, numberOf, rowIn};
-ghost use Rattle.lines.specs.Places.{first, lookAt, lookByte};
+ghost use lib.ListN.{drop};
+ghost use Rattle.lines.specs.Answers.{noRow, rowIn};
 ghost use Rattle.lines.specs.Rows.{begins, isByte};
+use digits::NumberRead;
 use model::Flow;
-
-// A number's answer: its value and the place after it, or a refusal.
-pub enum NumberRead {
-    Value(u16, usize),
-    Refused,
-}
+use numerals::byte_at;
+use numerals::number_at;
 
 // A line's answer: whether it has the form, how many numbers, the first of them, and the place of the next line.
 pub struct Row {
@@ -37,76 +32,6 @@ impl Row {
             next: 0,
         }
     }
-}
-
-// A digit by its value, a tab or an LF by 10, any other byte by 11.
-fn look_byte(b: u8) -> u32
-    ensures { λ r. ⌜ (r ≡ lookByte b) × (r ≤ 11) ⌝ }
-{
-    if b < 48 {
-        if b == 9 {
-            return 10;
-        }
-        if b == 10 {
-            return 10;
-        }
-        return 11;
-    }
-    if 57 < b {
-        return 11;
-    }
-    (b - 48) as u32
-}
-
-// The byte at a place, 0 beyond the end.
-fn byte_at(s: &[u8], at: usize) -> u8
-    ensures { λ r. ⌜ r ≡ getD (now (s .entry)) at 0 ⌝ }
-{
-    if at < s.len() { s[at] } else { 0 }
-}
-
-// How the byte at a place goes on with a number; the text's end ends it.
-fn look_at(s: &[u8], at: usize) -> u32
-    ensures { λ r. ⌜ (r ≡ lookAt (drop at (now (s .entry)))) × (r ≤ 11) ⌝ }
-{
-    if at < s.len() { look_byte(s[at]) } else { 10 }
-}
-
-// The number at a place: decimal, without sign or leading zero, at most 65,535, ended by a tab, an LF or the text's end.
-pub fn number_at(s: &[u8], from: usize) -> NumberRead
-    ensures { λ r. ⌜ r ≡ numberIn from (first (drop from (now (s .entry)))) ⌝ }
-{
-    let mut i = from;
-    let mut v: u32 = 0;
-    let mut d = look_at(s, i);
-    while d < 10 {
-        v = v * 10 + d;
-        if 65535 < v {
-            return NumberRead::Refused;
-        }
-        i += 1;
-        d = look_at(s, i);
-    }
-    if d == 11 {
-        return NumberRead::Refused;
-    }
-    number_of(byte_at(s, from), from, i, v as u16)
-}
-
-// The answer to digits from one place to another that have this value: none is no number, and a leading zero stands alone.
-fn number_of(lead: u8, from: usize, end: usize, v: u16) -> NumberRead
-    ensures { λ r. ⌜ r ≡ numberOf lead from end v ⌝ }
-{
-    if end <= from {
-        return NumberRead::Refused;
-    }
-    if end - from == 1 {
-        return NumberRead::Value(v, end);
-    }
-    if lead == 48 {
-        return NumberRead::Refused;
-    }
-    NumberRead::Value(v, end)
 }
 
 // The rest of a line from a place on: numbers, each after a tab, and the LF. A bad number ends it at once; any other fault is

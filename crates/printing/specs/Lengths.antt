@@ -12,7 +12,7 @@ use Rattle.model.specs.declared.answers.Send.{Send}
 use Rattle.model.specs.Text.{decimal, decimals, lineOf, tabbed}
 use Rattle.model.specs.Delay.{boundsOf}
 use Rattle.model.specs.Program.{sendLines, sendNumbers, sendWord, signed, boundLine, boundLines}
-use Rattle.puts.specs.Decimals.{decimal-most}
+use Rattle.decimals.specs.Decimals.{decimal-most}
 use Rattle.puts.specs.Stores.{Put, lastPlace}
 
 tabbed-le : (vs : List ℕ) → length (tabbed (decimals vs)) ≤ 11 * length vs + 1

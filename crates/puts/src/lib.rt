@@ -2,20 +2,11 @@
 // is the place after them all the same, so that a text's length is found by putting it into any buffer from place 0.
 ghost use mathlib.Core.Path.{_≡_};
 ghost use mathlib.Core.List.{[], _∷_};
-ghost use Prim.Native.Nat.{_+_, _≤_, _<_, min};
-ghost use lib.ListN.{length, set};
-ghost use lib.Seq.{sets};
+ghost use Prim.Native.Nat.{_+_, min};
 ghost use Rattle.model.specs.Text.{decimal, lineOf};
 ghost use Rattle.puts.specs.Stores.{Put, fieldsOf, lastPlace};
-
-// One byte at a place, where the buffer has it.
-fn put_at(out: &mut [u8], at: usize, b: u8)
-    ensures { λ r. ⌜ now (out .exit) ≡ set (now (out .entry)) at b ⌝ }
-{
-    if at < out.len() {
-        out[at] = b;
-    }
-}
+use decimals::put_at;
+use decimals::put_digits;
 
 // The place so many bytes on; the last place there is where that would be beyond it.
 fn advance(at: usize, n: usize) -> usize
@@ -37,43 +28,11 @@ pub fn put_byte(out: &mut [u8], at: usize, b: u8) -> usize
     advance(at, 1)
 }
 
-// How many digits a number has.
-pub fn width(v: u32) -> usize
-    ensures { λ r. ⌜ (r ≡ length (decimal v)) × (r ≤ 10) ⌝ }
-{
-    let mut n = v;
-    let mut digits = 1usize;
-    while 10 <= n {
-        n = n / 10;
-        digits += 1;
-    }
-    digits
-}
-
-// A number's digits from `at` to `end`, the last one first.
-fn put_digits(out: &mut [u8], at: usize, end: usize, v: u32)
-    requires { ⌜ end ≡ at + length (decimal v) ⌝ }
-    ensures { λ r. ⌜ now (out .exit) ≡ sets (now (out .entry)) at (decimal v) ⌝ }
-{
-    let mut n = v;
-    let mut i = end;
-    while 10 <= n {
-        i -= 1;
-        put_at(out, i, (48 + n % 10) as u8);
-        n = n / 10;
-    }
-    put_at(out, at, (48 + n) as u8);
-}
-
 // A number, decimal and without leading zero.
 pub fn put_number(out: &mut [u8], at: usize, v: u32) -> usize
     ensures { λ r. ⌜ Put (now (out .entry)) at (decimal v) (now (out .exit)) r ⌝ }
 {
-    let n = width(v);
-    if out.len() <= at {
-        return advance(at, n);
-    }
-    put_digits(out, at, at + n, v);
+    let n = put_digits(out, at, v);
     advance(at, n)
 }
 

@@ -1,14 +1,14 @@
--- A line's row judged by rules 1 to 9, and the flow that its numbers make.
-use mathlib.Core.Bool.{Bool, _&&_, cond}
-use mathlib.Core.List.{List, []}
+-- A flow line's row judged by rules 1 and 3 to 9, and the flow that its numbers make.
+use mathlib.Core.Bool.{_&&_, cond}
+use mathlib.Core.List.{List}
 use Prim.Native.Nat.{ℕ, _-_}
-use lib.Dec.{leb, eqb}
+use lib.Dec.{leb}
 use lib.ListN.{getD, take, drop}
 use Rattle.model.specs.declared.kinds.Flow.{Flow}
 use Rattle.model.specs.declared.answers.Refusal.{Refusal}
 use Rattle.model.specs.declared.answers.Refusal.the-variants.{BadForm}
 use Rattle.model.specs.Limits.{mostNodes}
-use Rattle.model.specs.Reader.{mapFault, flowFault, pad}
+use Rattle.model.specs.Reader.{flowFault, pad}
 use Rattle.lines.specs.declared.reading.Row.{Row}
 
 -- the number at this place of a row
@@ -18,10 +18,6 @@ numberAt r i = getD (r .numbers) i 0
 -- a row's nodes, filled up with zeros
 abbrev pub nodesOf : List ℕ → List ℕ
 nodesOf ns = pad mostNodes (drop 4 ns)
-
--- the first line's refusal
-abbrev pub firstRowFault : Row → Refusal
-firstRowFault r = cond (r .formed && eqb (r .count) 1) (mapFault (numberAt r 0)) BadForm
 
 -- the refusal of the line of flow number k
 abbrev pub flowRowFault : ℕ → Row → Refusal

@@ -1,6 +1,6 @@
-// What a line of a set's text is refused for, judged by its row: its form first, then rules 2 to 9.
+// What a flow line of a set's text is refused for, judged by its row: its form first, then rules 3 to 9; and the flow that it gives.
 ghost use mathlib.Core.Path.{_≡_};
-ghost use Rattle.row_rules.specs.Judged.{firstRowFault, flowRowFault, flowWith, nodesOf};
+ghost use Rattle.row_rules.specs.Judged.{flowRowFault, flowWith, nodesOf};
 use lines::Row;
 use model::Flow;
 use model::Refusal;
@@ -17,18 +17,6 @@ fn route_of(numbers: [u16; Row::MOST]) -> [u16; Flow::MOST_NODES]
         i += 1;
     }
     route
-}
-
-// The first line's refusal: its form, then rule 2.
-pub fn first_fault(row: Row) -> Refusal
-    ensures { λ r. ⌜ r ≡ firstRowFault row ⌝ }
-{
-    if row.formed {
-        if row.count == 1 {
-            return flow_rules::map_fault(row.numbers[0]);
-        }
-    }
-    Refusal::BadForm
 }
 
 // The refusal of the line of flow number k: its form, then rules 3 to 9.

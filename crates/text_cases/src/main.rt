@@ -6,38 +6,34 @@ ghost use lib.ListN.{length};
 use model::Fault;
 use model::FlowSet;
 
-fn number(n: u32) {
+fn number(n: usize) {
     io::write_all(1, b"\t");
     io::print_decimal(1, n as u64);
 }
 
 // A case's label, its fault's number and line, and one number more.
-fn print(label: &[u8], fault: Fault, last: u32) {
+fn print(label: &[u8], fault: Fault, last: usize) {
     let refusal = fault.refusal;
     io::write_all(1, label);
-    number(refusal.code() as u32);
-    number(fault.line);
+    number(refusal.code() as usize);
+    number(fault.line as usize);
     number(last);
     io::write_all(1, b"\n");
 }
 
-// How many bytes these are, where a buffer begins with them; else 0.
-fn begun(buffer: &[u8], bytes: &[u8]) -> u32 {
-    let mut i = 0u32;
-    while i < 65536 {
-        let at = i as usize;
-        if bytes.len() <= at {
-            return i;
-        }
-        if buffer.len() <= at {
-            return 0;
-        }
-        if buffer[at] != bytes[at] {
+// How many bytes a buffer begins with that are all of these; 0 where it does not.
+fn begun(buffer: &[u8], n: usize, bytes: &[u8]) -> usize {
+    if n != bytes.len() {
+        return 0;
+    }
+    let mut i = 0;
+    while i < bytes.len() {
+        if numerals::byte_at(buffer, i) != bytes[i] {
             return 0;
         }
         i += 1;
     }
-    0
+    n
 }
 
 // Prints the reader's number and line, and how many bytes the set is written in; 0 where it is refused, or is not this text again.
@@ -45,11 +41,7 @@ fn judge(label: &[u8], text: &[u8]) {
     let reading = text::read(text);
     let mut buffer = io::large_buffer();
     let written = text::write(reading.set, &mut buffer);
-    if written.length == text.len() {
-        print(label, reading.fault, begun(&buffer, text));
-    } else {
-        print(label, reading.fault, 0);
-    }
+    print(label, reading.fault, begun(&buffer, written.length, text));
 }
 
 // The byte that one of `stdin` stands for: `|` a tab, `$` LF, `%` CR, `@` NUL, `<` and `>` 128 and 255, `{`, `}` and `~` the three of a

@@ -4,7 +4,8 @@ use Prim.Native.Nat.{_-_}
 use native.Mathlib.Omega.{arith}
 use lib.ListN.{length, take}
 use lib.Seq.{take-length}
-use Rattle.puts.specs.Stores.{Put, Putting, putting-start, putting-more, putting-done, take-next}
+use Rattle.puts.specs.Stores.{Put, Putting, putting-start, putting-more, putting-done}
+use Rattle.decimals.specs.Stored.{take-next}
 use borrow.Author.Needs.{needs}
 use Rattle.puts.proofs.put_word.Statement.{statement}
 use Rattle.puts.proofs.put_word.Tie as tie

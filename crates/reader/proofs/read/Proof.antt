@@ -1,6 +1,6 @@
 -- `read` judges the first line, then reads the flows from the next one on. Assumes nothing.
 use mathlib.Core.Path.{sym, _∙_}
-use Rattle.reader.specs.Judging.{first-refused, first-read}
+use Rattle.reader.specs.First.{first-refused, first-read}
 use borrow.Author.Needs.{needs}
 use Rattle.reader.proofs.read.Statement.{statement}
 use Rattle.reader.proofs.read.Tie as tie
@@ -17,13 +17,9 @@ code-requires c κs = search needs
 blank-requires : tie.Need-blank-requires
 blank-requires c κs = search needs
 
-answer-requires : tie.Need-answer-requires
-answer-requires c κs = search needs
-
 returns : tie.Need-returns
 returns c =
-    c .answer .ensures
-    ∙ first-refused _ _ (c .before .before .before .before .before .set-line .ensures) _ (c .before .before .before .before .first-fault .ensures) (λ q. c .before .before .if1 .taken (c .before .before .before .code .ensures ∙ q)) _ (c .before .blank .ensures)
+    first-refused _ _ (c .before .before .before .before .set-line .ensures) _ (c .before .before .before .first-fault .ensures) (λ q. c .before .if1 .taken (c .before .before .code .ensures ∙ q)) _ (c .blank .ensures)
 
 element-copy-out-read-flows : tie.Need-element-copy-out-read-flows
 element-copy-out-read-flows c = search needs
@@ -44,7 +40,6 @@ read-spec =
     first-fault-requires
     code-requires
     blank-requires
-    answer-requires
     returns
     element-copy-out-read-flows
     read-flows-requires

@@ -10,20 +10,19 @@ use lib.Dec.{lit<}
 use lib.ListN.{take}
 use Rattle.model.specs.Reader.{twice}
 use Rattle.route_rules.specs.Route.{routeFault}
-use Rattle.route_rules.proofs.Nodes.{tests}
 use Rattle.route_rules.proofs.route_fault.Statement.{statement}
 use Rattle.route_rules.proofs.route_fault.Tie as tie
 use Rattle.route_rules.proofs.route_fault.Reads as reads
 use Rattle.route_rules.proofs.route_fault.Lts as lts
-use Rattle.route_rules.proofs.repeats.Reads as repeats-reads
+use Rattle.repeats.proofs.repeats.Reads as repeats-reads
 
 returns : tie.Need-returns
 unfolding routeFault
-returns c = search (needs, tests)
+returns c = simp (lt-ltb _ _ (c .if1 .taken))
 
 returns-2 : tie.Need-returns-2
 unfolding routeFault
-returns-2 c = search (needs, tests)
+returns-2 c = simp (le-ltb _ _ (c .before .if1 .left), lt-ltb _ _ (c .if2 .taken))
 
 repeats-requires : tie.Need-repeats-requires
 repeats-requires c κs = search needs

@@ -7,7 +7,7 @@ use lib.ListN.{length, getD, take, drop}
 use Rattle.model.specs.Sums.{anyTo}
 use Rattle.model.specs.Sets.{memb}
 use Rattle.laws.specs.Sums.{any-zero, any-next, any-in}
-use Rattle.route_rules.proofs.Nodes.{memb-here, memb-on, memb-end}
+use Rattle.repeats.proofs.Nodes.{memb-here, memb-on, memb-end}
 use borrow.Author.Needs.{needs}
 use Rattle.touches.proofs.touches.Statement.{statement}
 use Rattle.touches.proofs.touches.Tie as tie

@@ -1,0 +1,48 @@
+// A number's decimal digits, as they are stored into a lent buffer, as far as it goes.
+ghost use mathlib.Core.Path.{_≡_};
+ghost use Prim.Native.Nat.{_≤_};
+ghost use lib.ListN.{length, set};
+ghost use lib.Seq.{sets};
+ghost use Rattle.model.specs.Text.{decimal};
+
+// One byte at a place, where the buffer has it.
+pub fn put_at(out: &mut [u8], at: usize, b: u8)
+    ensures { λ r. ⌜ now (out .exit) ≡ set (now (out .entry)) at b ⌝ }
+{
+    if at < out.len() {
+        out[at] = b;
+    }
+}
+
+// How many digits a number has.
+pub fn width(v: u32) -> usize
+    ensures { λ r. ⌜ (r ≡ length (decimal v)) × (r ≤ 10) ⌝ }
+{
+    let mut n = v;
+    let mut digits = 1usize;
+    while 10 <= n {
+        n = n / 10;
+        digits += 1;
+    }
+    digits
+}
+
+// A number's digits from a place on, the last one stored first; the answer is how many it has.
+pub fn put_digits(out: &mut [u8], at: usize, v: u32) -> usize
+    ensures { λ r. ⌜ (now (out .exit) ≡ sets (now (out .entry)) at (decimal v)) × (r ≡ length (decimal v)) × (r ≤ 10) ⌝ }
+{
+    let digits = width(v);
+    if out.len() <= at {
+        return digits;
+    }
+    let end = at + digits;
+    let mut n = v;
+    let mut i = end;
+    while 10 <= n {
+        i -= 1;
+        put_at(out, i, (48 + n % 10) as u8);
+        n = n / 10;
+    }
+    put_at(out, at, (48 + n) as u8);
+    digits
+}
