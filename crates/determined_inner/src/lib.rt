@@ -64,8 +64,8 @@ pub fn due_of(first: u32, period: u32, deadline: u32, t: u32) -> TwoU32
     requires { ⌜ (0 < period) × (first ≤ 65535) × (deadline ≤ 65535) × (t ≤ 4000000000) ⌝ }
     ensures { λ r. ⌜ r .0 ≡ r .1 ⌝ }
 {
-    let a = packet::due_of(first, period, deadline, t);
-    let b = packet::due_of(first, period, deadline, t);
+    let a = due::due_of(first, period, deadline, t);
+    let b = due::due_of(first, period, deadline, t);
     TwoU32(a, b)
 }
 
@@ -73,8 +73,8 @@ pub fn had_of(due: u32, deadline: u32, t: u32, n: u8) -> TwoU8
     requires { ⌜ (deadline ≤ 65535) × (t ≤ 4000000000) ⌝ }
     ensures { λ r. ⌜ r .0 ≡ r .1 ⌝ }
 {
-    let a = packet::had_of(due, deadline, t, n);
-    let b = packet::had_of(due, deadline, t, n);
+    let a = due::had_of(due, deadline, t, n);
+    let b = due::had_of(due, deadline, t, n);
     TwoU8(a, b)
 }
 
@@ -108,8 +108,8 @@ pub fn delay_of(t: u32, due: u32, deadline: u32) -> TwoSpan
     requires { ⌜ Delayed t due deadline ⌝ }
     ensures { λ r. ⌜ r .0 ≡ r .1 ⌝ }
 {
-    let a = packet::delay_of(t, due, deadline);
-    let b = packet::delay_of(t, due, deadline);
+    let a = due::delay_of(t, due, deadline);
+    let b = due::delay_of(t, due, deadline);
     TwoSpan(a, b)
 }
 

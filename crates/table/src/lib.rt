@@ -12,8 +12,8 @@ ghost use Rattle.machinery.specs.Dues.{dueIn, hadIn};
 ghost use Rattle.machinery.specs.Links.{Routes};
 use model::Flow;
 use model::FlowSet;
-use packet::due_of;
-use packet::had_of;
+use due::due_of;
+use due::had_of;
 
 // Flow k's tries and route put in their places. A record says nothing of its array's length, so it is said here.
 fn put_route(
