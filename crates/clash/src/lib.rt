@@ -1,20 +1,16 @@
 // Rules 3 and 4: a packet's link, and whether it shares a node with a placed one.
 ghost use mathlib.Core.Path.{_≡_};
 ghost use mathlib.Core.Bool.{not};
-ghost use mathlib.Core.List.{[], _∷_};
+ghost use mathlib.Core.List.{[]};
 ghost use Prim.Native.Nat.{ℕ, _+_, _/_, _≤_, _<_};
 ghost use lib.ListN.{getD, length};
-ghost use Rattle.model.specs.Sets.{meet};
 ghost use Rattle.machinery.specs.Choice.{clashEnds, OneMore};
 ghost use Rattle.machinery.specs.Links.{Busy};
+use ends::Ends;
+use ends::mark_ends;
+use ends::share_node;
 use model::ChannelMap;
 use model::Flow;
-
-// The two ends of a link.
-pub struct Ends {
-    pub from: u16,
-    pub to: u16,
-}
 
 // Rule 3: the link of flow k's next transmission, where its packet has had n of its C.
 pub fn ends_of(
@@ -31,22 +27,6 @@ pub fn ends_of(
     let from = routes[k][i];
     let to = routes[k][j];
     Ends { from, to }
-}
-
-// Two links share a node.
-fn share_node(a: Ends, b: Ends) -> bool
-    ensures { λ r. ⌜ r ≡ meet (a .from ∷ a .to ∷ []) (b .from ∷ b .to ∷ []) ⌝ }
-{
-    if a.from == b.from {
-        return true;
-    }
-    if a.from == b.to {
-        return true;
-    }
-    if a.to == b.from {
-        return true;
-    }
-    a.to == b.to
 }
 
 // A link shares a node with a placed one.
@@ -113,10 +93,7 @@ pub fn place_one(
     if is_taken(a, from, to, busy, placed) {
         return placed;
     }
-    let f = (a.from % 256) as usize;
-    let g = (a.to % 256) as usize;
-    busy[f] = 1;
-    busy[g] = 1;
+    mark_ends(a, busy);
     from[placed] = a.from;
     to[placed] = a.to;
     chosen[placed] = k;

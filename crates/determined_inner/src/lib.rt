@@ -9,7 +9,7 @@ ghost use Rattle.model.specs.Refusals.{good};
 ghost use Rattle.model.specs.Reader.{recordFault};
 ghost use Rattle.model.specs.Sets.{used};
 ghost use Rattle.machinery.specs.Answers.{Delayed};
-use clash::Ends;
+use ends::Ends;
 use model::Fault;
 use model::Flow;
 use model::FlowSet;
@@ -31,6 +31,8 @@ pub struct TwoBool(pub bool, pub bool);
 pub struct TwoSpan(pub Span, pub Span);
 
 pub struct TwoEnds(pub Ends, pub Ends);
+
+pub struct TwoFault(pub Fault, pub Fault);
 
 pub struct TwoStepped(pub Stepped, pub Stepped);
 
@@ -130,9 +132,17 @@ pub fn ends_of(
 pub fn refused(fault: Fault, st: State) -> TwoStepped
     ensures { λ r. ⌜ r .0 ≡ r .1 ⌝ }
 {
-    let a = slot_step::refused(fault, st);
-    let b = slot_step::refused(fault, st);
+    let a = refused_step::refused(fault, st);
+    let b = refused_step::refused(fault, st);
     TwoStepped(a, b)
+}
+
+pub fn state_fault(t: u32, sent: &[u8; Flow::MOST], work: &[u8; Flow::MOST]) -> TwoFault
+    ensures { λ r. ⌜ r .0 ≡ r .1 ⌝ }
+{
+    let a = refused_step::state_fault(t, sent, work);
+    let b = refused_step::state_fault(t, sent, work);
+    TwoFault(a, b)
 }
 
 pub fn step_accepted(s: FlowSet, st: State) -> TwoStepped

@@ -5,7 +5,7 @@ ghost use lib.ListN.{getD, length, take};
 ghost use Rattle.model.specs.Machine.{filled, noSend};
 ghost use Rattle.machinery.specs.Answers.{sendIn, sendsOf};
 use channel::radio_channel;
-use clash::Ends;
+use ends::Ends;
 use clash::ends_of;
 use model::ChannelMap;
 use model::Flow;

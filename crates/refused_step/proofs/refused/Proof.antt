@@ -1,7 +1,7 @@
 -- `refused` is the empty slot: its arrays are blank ones. Assumes nothing.
 use mathlib.Core.Path.{refl}
-use Rattle.slot_step.proofs.refused.Statement.{statement}
-use Rattle.slot_step.proofs.refused.Tie as tie
+use Rattle.refused_step.proofs.refused.Statement.{statement}
+use Rattle.refused_step.proofs.refused.Tie as tie
 
 returns : tie.Need-returns
 returns c = refl

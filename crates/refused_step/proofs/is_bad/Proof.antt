@@ -9,8 +9,8 @@ use Prim.Native.Nat.{ℕ, _-_, _≤_, _<_}
 use mathlib.Core.Bool.{Bool, true, false, _||_, or-true}
 use mathlib.Core.Path.{_≡_, refl, sym, ap, _∙_}
 use borrow.Author.Needs.{needs}
-use Rattle.slot_step.proofs.is_bad.Statement.{statement}
-use Rattle.slot_step.proofs.is_bad.Tie as tie
+use Rattle.refused_step.proofs.is_bad.Statement.{statement}
+use Rattle.refused_step.proofs.is_bad.Tie as tie
 
 abbrev Inv-loop : tie.InvT-loop
 Inv-loop t sent work k₀ k = (k ≤ 64) × (t ≤ 4000000000) × (anyTo (λ j. ltb (getD work j 0) (getD sent j 0)) k ≡ false)
