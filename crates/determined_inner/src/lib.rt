@@ -115,6 +115,21 @@ pub fn delay_of(t: u32, due: u32, deadline: u32) -> TwoSpan
     TwoSpan(a, b)
 }
 
+pub fn share_node(x: Ends, y: Ends) -> TwoBool
+    ensures { λ r. ⌜ r .0 ≡ r .1 ⌝ }
+{
+    let a = ends::share_node(x, y);
+    let b = ends::share_node(x, y);
+    TwoBool(a, b)
+}
+
+pub fn mark_ends(a: Ends, x: &mut [u8; 256], y: &mut [u8; 256])
+    ensures { λ r. ⌜ ((now (x .entry) ≡ now (y .entry)) → (now (x .exit) ≡ now (y .exit))) ⌝ }
+{
+    ends::mark_ends(a, x);
+    ends::mark_ends(a, y);
+}
+
 pub fn ends_of(
     k: usize,
     n: u8,
