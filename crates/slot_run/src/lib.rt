@@ -16,12 +16,12 @@ use model::FlowSet;
 use model::Ran;
 use model::Slot;
 use model::State;
-use release::Awaited;
-use release::turn;
 use table::dues;
 use table::tables;
 use tally::Slotted;
 use tally::count_slot;
+use turn::Awaited;
+use turn::turn;
 
 // A budget goes as far as the last slot.
 fn slots_of(budget: u32) -> u32

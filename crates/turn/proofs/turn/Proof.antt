@@ -2,8 +2,8 @@
 use Rattle.machinery.specs.Turns.{released-none}
 use native.Mathlib.Omega.{arith}
 use borrow.Author.Needs.{needs}
-use Rattle.release.proofs.turn.Statement.{statement}
-use Rattle.release.proofs.turn.Tie as tie
+use Rattle.turn.proofs.turn.Statement.{statement}
+use Rattle.turn.proofs.turn.Tie as tie
 
 returns : tie.Need-returns
 returns c =
