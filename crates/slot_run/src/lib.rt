@@ -16,10 +16,10 @@ use model::FlowSet;
 use model::Ran;
 use model::Slot;
 use model::State;
+use slot_count::Slotted;
+use slot_count::count_slot;
 use table::dues;
 use table::tables;
-use tally::Slotted;
-use tally::count_slot;
 use turn::Awaited;
 use turn::turn;
 

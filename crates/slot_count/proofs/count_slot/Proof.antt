@@ -11,8 +11,8 @@ use Prim.Native.Nat.{ℕ, _≤_}
 use mathlib.Core.Bool.{Bool, true, false}
 use mathlib.Core.Path.{refl}
 use borrow.Author.Needs.{needs}
-use Rattle.tally.proofs.count_slot.Statement.{statement}
-use Rattle.tally.proofs.count_slot.Tie as tie
+use Rattle.slot_count.proofs.count_slot.Statement.{statement}
+use Rattle.slot_count.proofs.count_slot.Tie as tie
 
 mark-le : (placed chosen marked : List ℕ) (n : ℕ) → Choice placed chosen marked n → (k : ℕ) → getD marked k 0 ≤ 1
 mark-le placed chosen marked n c k = rw (c .marks k) (go (memb k placed))

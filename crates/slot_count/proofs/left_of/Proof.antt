@@ -2,8 +2,8 @@
 use mathlib.Core.Logic.{inl, inr}
 use mathlib.Core.Path.{refl}
 use borrow.Author.Needs.{needs}
-use Rattle.tally.proofs.left_of.Statement.{statement}
-use Rattle.tally.proofs.left_of.Tie as tie
+use Rattle.slot_count.proofs.left_of.Statement.{statement}
+use Rattle.slot_count.proofs.left_of.Tie as tie
 
 returns : tie.Need-returns
 returns c = inr (refl, c .if1 .taken)
