@@ -1,16 +1,21 @@
 -- A run on its way: its arrays just before a slot, for any set whose numbers they are, and what a slot makes of them.
-use mathlib.Core.Path.{_≡_, sym, _∙_}
+use mathlib.Core.Path.{_≡_, refl, sym, _∙_}
 use mathlib.Core.List.{List}
-use Prim.Native.Nat.{ℕ, _+_, _≤_, _<_}
+use Prim.Native.Nat.{ℕ, _+_, _≤_, _<_, zero-le}
+use native.Mathlib.Omega.{arith}
 use native.Mathlib.Nat.{add-zero}
 use lib.Count.{ones}
+use lib.ListN.{getD, length, replicate}
 use Rattle.model.specs.declared.kinds.FlowSet.{FlowSet}
 use Rattle.model.specs.declared.answers.Fault.{Fault}
 use Rattle.model.specs.Limits.{lastSlot}
+use Rattle.model.specs.Reader.{recordFault}
 use Rattle.model.specs.Sets.{used}
-use Rattle.model.specs.Delay.{ways}
+use Rattle.machinery.specs.Lists.{Through, getD-zeros}
+use Rattle.machinery.specs.Dues.{dueIn}
 use Rattle.machinery.specs.Links.{Routes}
-use Rattle.machinery.specs.Slots.{Prepared, Ready, Running}
+use Rattle.machinery.specs.Slots.{Prepared, Ready, Running, running-none}
+use Rattle.machinery.specs.Turns.{turn-first}
 use Rattle.machinery.specs.Runs.{Await, Turned, Counted, stateAt, ready-turned, run-quiet, run-counted}
 
 pub record Underway (s : FlowSet) (fault : Fault) (count m t delivered dropped : ℕ) (start period deadline work tries : List ℕ) (routes : List (List ℕ)) (due next sent order : List ℕ) (soonest lined : ℕ) : Type 0 where
@@ -22,7 +27,34 @@ pub record Underway (s : FlowSet) (fault : Fault) (count m t delivered dropped :
   pub awaited : Await s t start period deadline work due next sent order soonest lined
   pub run : Running s fault (stateAt t sent) delivered dropped t
 
--- some set's run is
+-- an accepted set's run before its first slot
+pub underway-first : (s : FlowSet) (fault : Fault) (count m : ℕ) (start period deadline work tries : List ℕ) (routes : List (List ℕ)) (due : List ℕ) → count ≡ s .count
+    → m ≡ ones (used s .map .0) → m ≤ 16 → Prepared s start period deadline work → Routes s tries routes → fault ≡ recordFault (used s) → length start ≡ 64
+    → Through (λ k. dueIn (getD start k 0) (getD period k 0) (getD deadline k 0) 0) (s .count) (replicate 64 0) due
+    → Underway s fault count m 0 0 0 start period deadline work tries routes due start (replicate 64 0) (replicate 64 0) 0 0
+underway-first s fault count m start period deadline work tries routes due e w l p q f n d =
+    record {
+      count-is = e;
+      ways-is = w;
+      ways-le = l;
+      numbers = p;
+      links = q;
+      awaited = record {
+        turns = record {
+          turn = λ k h. rw (d .below k h) (turn-first (getD start k 0) (getD period k 0) (getD deadline k 0));
+          none = λ k h. d .above k h ∙ getD-zeros 64 k;
+        };
+        soon = λ k h. zero-le;
+        line = λ h. absurd (omega arith);
+        long-due = d .long;
+        long-next = n;
+        long-order = refl;
+        few = zero-le;
+      };
+      run = running-none _ _ _ f refl;
+    }
+
+-- some set's run is on its way
 pub record SomeRun (count m t : ℕ) (start period deadline work tries : List ℕ) (routes : List (List ℕ)) (due next sent order : List ℕ) (soonest lined : ℕ) : Type 0 where
   pub set : FlowSet
   pub fault : Fault
