@@ -102,7 +102,18 @@ pub fn pass_slot(
     ensures { λ r. ⌜ ((s : FlowSet) (fault : Fault) (d x : ℕ) → Underway s fault count ways t d x (now (start .entry)) (now (period .entry)) (now (deadline .entry)) (now (work .entry)) (now (tries .entry)) (now (routes .entry)) (now (due .entry)) (now (next .entry)) (now (sent .entry)) (now (order .entry)) soonest lined → Underway s fault count ways (t + 1) (d + r .delivered) (x + r .dropped) (now (start .entry)) (now (period .entry)) (now (deadline .entry)) (now (work .entry)) (now (tries .entry)) (now (routes .entry)) (now (due .exit)) (now (next .exit)) (now (sent .exit)) (now (order .exit)) (r .soonest) (r .lined)) ⌝ }
 {
     let at = turn(
-        count, t, start, period, deadline, work, soonest, lined, due, next, sent, order,
+        count,
+        t,
+        start,
+        period,
+        deadline,
+        work,
+        soonest,
+        lined,
+        due,
+        next,
+        sent,
+        order,
     );
     if at.lined == 0 {
         return Passed {
@@ -113,7 +124,17 @@ pub fn pass_slot(
         };
     }
     let got = count_slot(
-        count, ways, t, start, due, work, tries, routes, order, at.lined, sent,
+        count,
+        ways,
+        t,
+        start,
+        due,
+        work,
+        tries,
+        routes,
+        order,
+        at.lined,
+        sent,
     );
     Passed {
         soonest: at.soonest,

@@ -10,10 +10,10 @@ ghost use Rattle.model.specs.Delay.{workAt};
 ghost use Rattle.machinery.specs.Lists.{Through};
 ghost use Rattle.machinery.specs.Dues.{dueIn, hadIn};
 ghost use Rattle.machinery.specs.Links.{Routes};
-use model::Flow;
-use model::FlowSet;
 use due::due_of;
 use due::had_of;
+use model::Flow;
+use model::FlowSet;
 
 // Flow k's tries and route put in their places. A record says nothing of its array's length, so it is said here.
 fn put_route(

@@ -13,7 +13,7 @@ abbrev Inv-loop : tie.InvT-loop
 Inv-loop slots count ways start period deadline work tries routes due₀ next₀ sent₀ order₀ soonest₀ lined₀ delivered₀ dropped₀ t₀ due next sent order soonest lined delivered dropped t =
     (t ≤ slots) × SomeRun count ways t start period deadline work tries routes due next sent order soonest lined
     × ((s : FlowSet) (fault : Fault) → Underway s fault count ways 0 0 0 start period deadline work tries routes due₀ next₀ sent₀ order₀ 0 0
-        → Underway s fault count ways t delivered dropped start period deadline work tries routes due next sent order soonest lined)
+    → Underway s fault count ways t delivered dropped start period deadline work tries routes due next sent order soonest lined)
     × (delivered ≤ 4294967295 * t) × (dropped ≤ 4294967295 * t)
 
 abbrev μ-loop : tie.MeasureT-loop
