@@ -1,1 +1,1 @@
-pub mod ReadySlot
+pub mod Placed
