@@ -1,20 +1,19 @@
-// Rules 3 and 4: a packet's link, and whether it shares a node with a placed one.
+// Rules 3 and 4: a packet's link, and the packet placed if that shares no node with a placed one.
 ghost use mathlib.Core.Path.{_≡_};
 ghost use mathlib.Core.Bool.{not};
-ghost use mathlib.Core.List.{[], _∷_};
+ghost use mathlib.Core.List.{[]};
 ghost use Prim.Native.Nat.{ℕ, _+_, _/_, _≤_, _<_};
 ghost use lib.ListN.{getD, length};
-ghost use Rattle.model.specs.Sets.{meet};
 ghost use Rattle.machinery.specs.Choice.{clashEnds, OneMore};
+ghost use Rattle.machinery.specs.Dues.{readyBy};
 ghost use Rattle.machinery.specs.Links.{Busy};
+ghost use Rattle.clash.specs.Judged.{Judged};
+use ends::Ends;
+use ends::mark_ends;
+use ends::share_node;
 use model::ChannelMap;
 use model::Flow;
-
-// The two ends of a link.
-pub struct Ends {
-    pub from: u16,
-    pub to: u16,
-}
+use packet::is_ready;
 
 // Rule 3: the link of flow k's next transmission, where its packet has had n of its C.
 pub fn ends_of(
@@ -31,22 +30,6 @@ pub fn ends_of(
     let from = routes[k][i];
     let to = routes[k][j];
     Ends { from, to }
-}
-
-// Two links share a node.
-fn share_node(a: Ends, b: Ends) -> bool
-    ensures { λ r. ⌜ r ≡ meet (a .from ∷ a .to ∷ []) (b .from ∷ b .to ∷ []) ⌝ }
-{
-    if a.from == b.from {
-        return true;
-    }
-    if a.from == b.to {
-        return true;
-    }
-    if a.to == b.from {
-        return true;
-    }
-    a.to == b.to
 }
 
 // A link shares a node with a placed one.
@@ -96,7 +79,7 @@ fn is_taken(
 }
 
 // Flow k placed, if its link shares no node with a placed one; how many then are.
-pub fn place_one(
+fn place_one(
     k: usize,
     a: Ends,
     placed: usize,
@@ -113,13 +96,39 @@ pub fn place_one(
     if is_taken(a, from, to, busy, placed) {
         return placed;
     }
-    let f = (a.from % 256) as usize;
-    let g = (a.to % 256) as usize;
-    busy[f] = 1;
-    busy[g] = 1;
+    mark_ends(a, busy);
     from[placed] = a.from;
     to[placed] = a.to;
     chosen[placed] = k;
     marked[k] = 1;
     placed + 1
+}
+
+// Flow k placed, if its packet is ready and its link shares no node with a placed one; how many then are.
+pub fn judge_flow(
+    k: usize,
+    t: u32,
+    start: &[u32; Flow::MOST],
+    due: &[u32; Flow::MOST],
+    sent: &[u8; Flow::MOST],
+    work: &[u8; Flow::MOST],
+    tries: &[u16; Flow::MOST],
+    routes: &[[u16; Flow::MOST_NODES]; Flow::MOST],
+    placed: usize,
+    from: &mut [u16; ChannelMap::MOST],
+    to: &mut [u16; ChannelMap::MOST],
+    busy: &mut [u8; 256],
+    chosen: &mut [usize; ChannelMap::MOST],
+    marked: &mut [u8; Flow::MOST],
+) -> usize
+    requires { ⌜ (k < 64) × (placed < 16) × Busy (now busy) (now from) (now to) placed × (length (now from) ≡ 16) × (length (now to) ≡ 16) ⌝ }
+    requires { ⌜ (getD (now sent) k 0 < getD (now work) k 0 → (0 < getD (now tries) k 0) × (getD (now sent) k 0 / getD (now tries) k 0 < 16)) ⌝ }
+    ensures one { λ r. ⌜ Judged (now (sent .entry)) (now (tries .entry)) (now (routes .entry)) (readyBy (now (start .entry)) (now (due .entry)) (now (sent .entry)) (now (work .entry)) t k) k placed (now (from .entry)) (now (to .entry)) (now (chosen .entry)) (now (marked .entry)) (now (from .exit)) (now (to .exit)) (now (chosen .exit)) (now (marked .exit)) r ⌝ }
+    ensures busy { λ r. ⌜ Busy (now (busy .exit)) (now (from .exit)) (now (to .exit)) r ⌝ }
+{
+    if is_ready(start[k], due[k], sent[k], work[k], t) {
+        let a = ends_of(k, sent[k], tries, routes);
+        return place_one(k, a, placed, from, to, busy, chosen, marked);
+    }
+    placed
 }

@@ -9,7 +9,7 @@ ghost use Rattle.model.specs.Refusals.{good};
 ghost use Rattle.model.specs.Reader.{recordFault};
 ghost use Rattle.model.specs.Sets.{used};
 ghost use Rattle.machinery.specs.Answers.{Delayed};
-use clash::Ends;
+use ends::Ends;
 use model::Fault;
 use model::Flow;
 use model::FlowSet;
@@ -31,6 +31,8 @@ pub struct TwoBool(pub bool, pub bool);
 pub struct TwoSpan(pub Span, pub Span);
 
 pub struct TwoEnds(pub Ends, pub Ends);
+
+pub struct TwoFault(pub Fault, pub Fault);
 
 pub struct TwoStepped(pub Stepped, pub Stepped);
 
@@ -104,8 +106,8 @@ pub fn due_of(first: u32, period: u32, deadline: u32, t: u32) -> TwoU32
     requires { ⌜ (0 < period) × (first ≤ 65535) × (deadline ≤ 65535) × (t ≤ 4000000000) ⌝ }
     ensures { λ r. ⌜ r .0 ≡ r .1 ⌝ }
 {
-    let a = packet::due_of(first, period, deadline, t);
-    let b = packet::due_of(first, period, deadline, t);
+    let a = due::due_of(first, period, deadline, t);
+    let b = due::due_of(first, period, deadline, t);
     TwoU32(a, b)
 }
 
@@ -113,8 +115,8 @@ pub fn had_of(due: u32, deadline: u32, t: u32, n: u8) -> TwoU8
     requires { ⌜ (deadline ≤ 65535) × (t ≤ 4000000000) ⌝ }
     ensures { λ r. ⌜ r .0 ≡ r .1 ⌝ }
 {
-    let a = packet::had_of(due, deadline, t, n);
-    let b = packet::had_of(due, deadline, t, n);
+    let a = due::had_of(due, deadline, t, n);
+    let b = due::had_of(due, deadline, t, n);
     TwoU8(a, b)
 }
 
@@ -148,9 +150,24 @@ pub fn delay_of(t: u32, due: u32, deadline: u32) -> TwoSpan
     requires { ⌜ Delayed t due deadline ⌝ }
     ensures { λ r. ⌜ r .0 ≡ r .1 ⌝ }
 {
-    let a = packet::delay_of(t, due, deadline);
-    let b = packet::delay_of(t, due, deadline);
+    let a = due::delay_of(t, due, deadline);
+    let b = due::delay_of(t, due, deadline);
     TwoSpan(a, b)
+}
+
+pub fn share_node(x: Ends, y: Ends) -> TwoBool
+    ensures { λ r. ⌜ r .0 ≡ r .1 ⌝ }
+{
+    let a = ends::share_node(x, y);
+    let b = ends::share_node(x, y);
+    TwoBool(a, b)
+}
+
+pub fn mark_ends(a: Ends, x: &mut [u8; 256], y: &mut [u8; 256])
+    ensures { λ r. ⌜ ((now (x .entry) ≡ now (y .entry)) → (now (x .exit) ≡ now (y .exit))) ⌝ }
+{
+    ends::mark_ends(a, x);
+    ends::mark_ends(a, y);
 }
 
 pub fn ends_of(
@@ -170,9 +187,17 @@ pub fn ends_of(
 pub fn refused(fault: Fault, st: State) -> TwoStepped
     ensures { λ r. ⌜ r .0 ≡ r .1 ⌝ }
 {
-    let a = slot_step::refused(fault, st);
-    let b = slot_step::refused(fault, st);
+    let a = refused_step::refused(fault, st);
+    let b = refused_step::refused(fault, st);
     TwoStepped(a, b)
+}
+
+pub fn state_fault(t: u32, sent: &[u8; Flow::MOST], work: &[u8; Flow::MOST]) -> TwoFault
+    ensures { λ r. ⌜ r .0 ≡ r .1 ⌝ }
+{
+    let a = refused_step::state_fault(t, sent, work);
+    let b = refused_step::state_fault(t, sent, work);
+    TwoFault(a, b)
 }
 
 pub fn step_accepted(s: FlowSet, st: State) -> TwoStepped

@@ -5,7 +5,7 @@ ghost use Rattle.model.specs.Machine.{stepOf};
 use model::FlowSet;
 use model::State;
 use model::Stepped;
-use slot_step::refused;
+use refused_step::refused;
 use slot_step::step_accepted;
 
 // One step: what is sent, delivered and dropped in the state's slot, and the next state. Refusals in the order of document 01: the

@@ -8,7 +8,7 @@ use native.Mathlib.Nat.{le-refl, add-zero, add-suc}
 use native.Mathlib.Numerals.{add-one}
 use native.Mathlib.Decide.{decLe}
 use native.Mathlib.Omega.{arith}
-use borrow.Author.Tests.{ltb-false, ltb-true, le-ltb, lt-ltb, lt-leb, le-leb}
+use borrow.Author.Tests.{ltb-false, ltb-true, le-ltb, lt-ltb, lt-leb, le-leb, leb-false}
 use lib.Dec.{leb, ltb, eqb}
 use lib.ListN.{length, getD, replicate, length-replicate, getD-replicate, List·getD-eq-default}
 use Rattle.model.specs.declared.kinds.FlowSet.{FlowSet}
@@ -117,10 +117,23 @@ pub step-refused : (s : FlowSet) (st : State) → good (recordFault s .refusal) 
 unfolding stepFault
 step-refused s st h = refused-by s st (recordFault s) (rw h) h
 
-pub step-bad : (s : FlowSet) (st : State) → good (recordFault s .refusal) ≡ true → badState s st ≡ true
-    → stepOf s st ≡ stepped (faultAt BadState 0) st [] [] []
+-- what is wrong with a state of an accepted set
+abbrev pub stateFault : FlowSet → State → Fault
+stateFault s st = cond (badState s st) (faultAt BadState 0) (cond (leb lastSlot (st .slot .0)) (faultAt AtLastSlot 0) noFault)
+
+pub step-faulty : (s : FlowSet) (st : State) (f : Fault) → good (recordFault s .refusal) ≡ true → f ≡ stateFault s st → good (f .refusal) ≡ false
+    → stepOf s st ≡ stepped f st [] [] []
 unfolding stepFault
-step-bad s st h b = refused-by s st (faultAt BadState 0) (rw (h, b)) refl
+step-faulty s st f h e = refused-by s st f (rw h (sym e))
+
+pub state-good : (s : FlowSet) (st : State) (f : Fault) → f ≡ stateFault s st → good (f .refusal) ≡ true → (badState s st ≡ false) × (st .slot .0 < lastSlot)
+state-good s st f e g = go (badState s st) (leb lastSlot (st .slot .0)) refl refl (rw e at g)
+  where
+    go : (b l : Bool) → badState s st ≡ b → leb lastSlot (st .slot .0) ≡ l → good (cond b (faultAt BadState 0) (cond l (faultAt AtLastSlot 0) noFault) .refusal) ≡ true
+        → (badState s st ≡ false) × (st .slot .0 < lastSlot)
+    go true l i j h = absurd (false≢true h)
+    go false true i j h = absurd (false≢true h)
+    go false false i j h = (i, leb-false _ _ j)
 
 pub step-last : (s : FlowSet) (st : State) → good (recordFault s .refusal) ≡ true → badState s st ≡ false → lastSlot ≤ st .slot .0
     → stepOf s st ≡ stepped (faultAt AtLastSlot 0) st [] [] []

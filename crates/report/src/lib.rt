@@ -7,11 +7,11 @@ ghost use Rattle.model.specs.Sets.{filterTo};
 ghost use Rattle.model.specs.Machine.{filled, noDelivery};
 ghost use Rattle.machinery.specs.Lists.{Through};
 ghost use Rattle.machinery.specs.Answers.{deliveredBy, deliveriesBy, droppedBy, Delayed};
+use due::delay_of;
 use model::ChannelMap;
 use model::Delivery;
 use model::Flow;
 use model::Span;
-use packet::delay_of;
 use packet::is_delivered;
 use packet::is_dropped;
 

@@ -16,12 +16,10 @@ use model::FlowSet;
 use model::Ran;
 use model::Slot;
 use model::State;
-use release::Awaited;
-use release::turn;
+use passing::Sums;
+use passing::pass_slots;
 use table::dues;
 use table::tables;
-use tally::Slotted;
-use tally::count_slot;
 
 // A budget goes as far as the last slot.
 fn slots_of(budget: u32) -> u32
@@ -34,8 +32,7 @@ fn slots_of(budget: u32) -> u32
     }
 }
 
-// The run of an accepted set whose numbers are in arrays. A slot without a ready packet sends, delivers and drops nothing, and until the next
-// release the same holds of the slots after it.
+// The run of an accepted set whose numbers are in arrays.
 fn run_slots(
     s: FlowSet,
     fault: Fault,
@@ -50,67 +47,38 @@ fn run_slots(
     requires { ⌜ Prepared s (now start) (now period) (now deadline) (now work) × Routes s (now tries) (now routes) × (fault ≡ recordFault (used s)) × (slots ≤ 4000000000) × (length (now start) ≡ 64) ⌝ }
     ensures { λ r. ⌜ r ≡ runOf (used s) slots ⌝ }
 {
+    let count = s.count as usize;
     let map = s.map;
     let ways = map.ways() as usize;
     let mut due = [0u32; Flow::MOST];
-    dues(s.count as usize, 0, start, period, deadline, &mut due);
+    dues(count, 0, start, period, deadline, &mut due);
     let mut next = *start;
     let mut sent = [0u8; Flow::MOST];
     let mut order = [0usize; Flow::MOST];
-    let mut soonest = 0;
-    let mut lined = 0;
-    let mut delivered: u64 = 0;
-    let mut dropped: u64 = 0;
-    let mut t = 0;
-    while t < slots {
-        let count = s.count as usize;
-        let at = turn(
-            count,
-            t,
-            start,
-            period,
-            deadline,
-            work,
-            soonest,
-            lined,
-            &mut due,
-            &mut next,
-            &mut sent,
-            &mut order,
-        );
-        soonest = at.soonest;
-        lined = at.lined;
-        if lined == 0 {
-            t += 1;
-        } else {
-            let got = count_slot(
-                count,
-                ways,
-                t,
-                start,
-                &due,
-                work,
-                tries,
-                routes,
-                &order,
-                lined,
-                &mut sent,
-            );
-            lined = got.lined;
-            delivered += got.delivered as u64;
-            dropped += got.dropped as u64;
-            t += 1;
-        }
-    }
+    let got = pass_slots(
+        slots,
+        count,
+        ways,
+        start,
+        period,
+        deadline,
+        work,
+        tries,
+        routes,
+        &mut due,
+        &mut next,
+        &mut sent,
+        &mut order,
+    );
     let last = State {
-        slot: Slot(t),
+        slot: Slot(slots),
         sent,
     };
     Ran {
         fault,
         last,
-        delivered,
-        dropped,
+        delivered: got.delivered,
+        dropped: got.dropped,
     }
 }
 

@@ -1,81 +1,23 @@
 // The step of an accepted set.
 ghost use mathlib.Core.Path.{_≡_};
-ghost use mathlib.Core.Bool.{true, _||_};
-ghost use mathlib.Core.List.{[]};
+ghost use mathlib.Core.Bool.{true};
 ghost use Prim.Native.Nat.{ℕ, _<_};
-ghost use lib.Dec.{ltb};
-ghost use lib.ListN.{getD};
 ghost use Rattle.model.specs.Refusals.{good};
 ghost use Rattle.model.specs.Reader.{recordFault};
-ghost use Rattle.model.specs.Sums.{anyTo};
 ghost use Rattle.model.specs.Sets.{used};
-ghost use Rattle.model.specs.Machine.{stepped, stepIf, stepOf};
+ghost use Rattle.model.specs.Machine.{stepIf, stepOf};
 ghost use Rattle.machinery.specs.States.{GoodState};
 ghost use Rattle.machinery.specs.Links.{Routes};
 ghost use Rattle.machinery.specs.Slots.{Prepared};
-use model::ChannelMap;
-use model::Delivery;
-use model::Fault;
 use model::Flow;
 use model::FlowSet;
-use model::Refusal;
-use model::Send;
-use model::Slot;
-use model::Span;
 use model::State;
 use model::Stepped;
+use refused_step::refused;
+use refused_step::state_fault;
 use slot::look;
 use slot::slot_of;
 use table::tables;
-
-// A refused step's answer: the state it was given, and an empty slot.
-pub fn refused(fault: Fault, st: State) -> Stepped
-    ensures { λ r. ⌜ r ≡ stepped fault st [] [] [] ⌝ }
-{
-    let send = Send {
-        slot: Slot(0),
-        flow: 0,
-        from: 0,
-        to: 0,
-        attempt: 0,
-        offset: 0,
-        channel: 0,
-    };
-    let delivery = Delivery {
-        flow: 0,
-        delay: Span(0),
-    };
-    let sent = [send; ChannelMap::MOST];
-    let delivered = [delivery; ChannelMap::MOST];
-    let dropped = [0u16; Flow::MOST];
-    Stepped {
-        fault,
-        next: st,
-        sends: 0,
-        sent,
-        deliveries: 0,
-        delivered,
-        drops: 0,
-        dropped,
-    }
-}
-
-// 12: a slot above the last, or a count above its flow's C, which is 0 beyond the last flow.
-fn is_bad(t: u32, sent: &[u8; Flow::MOST], work: &[u8; Flow::MOST]) -> bool
-    ensures { λ r. ⌜ r ≡ (ltb 4000000000 t || anyTo (λ k. ltb (getD (now (work .entry)) k 0) (getD (now (sent .entry)) k 0)) 64) ⌝ }
-{
-    if State::LAST < t {
-        return true;
-    }
-    let mut k = 0;
-    while k < Flow::MOST {
-        if work[k] < sent[k] {
-            return true;
-        }
-        k += 1;
-    }
-    false
-}
 
 // The answer of a good state below the last slot.
 fn slot_answer(
@@ -144,18 +86,9 @@ pub fn step_accepted(s: FlowSet, st: State) -> Stepped
     );
     let t = st.slot.0;
     let sent = st.sent;
-    if is_bad(t, &sent, &work) {
-        let fault = Fault {
-            refusal: Refusal::BadState,
-            line: 0,
-        };
-        return refused(fault, st);
-    }
-    if State::LAST <= t {
-        let fault = Fault {
-            refusal: Refusal::AtLastSlot,
-            line: 0,
-        };
+    let fault = state_fault(t, &sent, &work);
+    let refusal = fault.refusal;
+    if refusal.code() != 0 {
         return refused(fault, st);
     }
     slot_answer(s, st, &start, &period, &deadline, &work, &tries, &routes)

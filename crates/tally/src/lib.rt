@@ -1,15 +1,11 @@
-// What a run needs of a slot: how many packets are delivered and dropped, and each flow's next count.
-ghost use mathlib.Core.Logic.{_⊎_};
+// How many packets a slot delivers and drops, and each flow's next count.
 ghost use mathlib.Core.Path.{_≡_};
-ghost use Prim.Native.Nat.{ℕ, _+_, _/_, _≤_, _<_};
+ghost use Prim.Native.Nat.{ℕ, _+_, _≤_};
 ghost use lib.ListN.{getD, length};
 ghost use Rattle.model.specs.Sums.{bit};
 ghost use Rattle.model.specs.Sets.{filterTo};
 ghost use Rattle.machinery.specs.Lists.{Through};
 ghost use Rattle.machinery.specs.Answers.{deliveredBy, droppedBy};
-ghost use Rattle.machinery.specs.Runs.{Counted};
-use choice::choose;
-use model::ChannelMap;
 use model::Flow;
 use packet::is_delivered;
 use packet::is_dropped;
@@ -27,7 +23,7 @@ pub struct Totals {
 }
 
 // The deliveries and drops of slot t counted, and each flow's next count: one more where it was placed.
-fn tally(
+pub fn tally(
     count: usize,
     t: u32,
     start: &[u32; Flow::MOST],
@@ -57,61 +53,4 @@ fn tally(
         k += 1;
     }
     Totals { delivered, dropped }
-}
-
-// How many of the order are left to look at: where none was placed none is ready before the next release.
-fn left_of(placed: usize, lined: usize) -> usize
-    ensures { λ r. ⌜ (r ≡ lined) ⊎ ((r ≡ 0) × (placed ≡ 0)) ⌝ }
-{
-    if placed == 0 { 0 } else { lined }
-}
-
-pub struct Slotted {
-    pub delivered: u32,
-    pub dropped: u32,
-    pub lined: usize,
-}
-
-// Slot t from a set's numbers in arrays, once its releases are made.
-pub fn count_slot(
-    count: usize,
-    ways: usize,
-    t: u32,
-    start: &[u32; Flow::MOST],
-    due: &[u32; Flow::MOST],
-    work: &[u8; Flow::MOST],
-    tries: &[u16; Flow::MOST],
-    routes: &[[u16; Flow::MOST_NODES]; Flow::MOST],
-    order: &[usize; Flow::MOST],
-    lined: usize,
-    sent: &mut [u8; Flow::MOST],
-) -> Slotted
-    requires { ⌜ (count ≤ 64) × (ways ≤ 16) × (t ≤ 4000000000) × (lined ≤ 64) × (length (now order) ≡ 64) × (length (now sent) ≡ 64) ⌝ }
-    requires { ⌜ ((i : ℕ) → i < lined → getD (now order) i 0 < 64) ⌝ }
-    requires { ⌜ ((k : ℕ) → getD (now sent) k 0 ≤ 64) ⌝ }
-    requires { ⌜ ((k : ℕ) → getD (now sent) k 0 < getD (now work) k 0 → (0 < getD (now tries) k 0) × (getD (now sent) k 0 / getD (now tries) k 0 < 16)) ⌝ }
-    ensures { λ r. ⌜ Counted count t ways (now (start .entry)) (now (due .entry)) (now (work .entry)) (now (tries .entry)) (now (routes .entry)) (now (order .entry)) lined (now (sent .entry)) (now (sent .exit)) (r .delivered) (r .dropped) (r .lined) ⌝ }
-{
-    let mut chosen = [0usize; ChannelMap::MOST];
-    let mut marked = [0u8; Flow::MOST];
-    let placed = choose(
-        ways,
-        t,
-        start,
-        due,
-        sent,
-        work,
-        tries,
-        routes,
-        order,
-        lined,
-        &mut chosen,
-        &mut marked,
-    );
-    let got = tally(count, t, start, due, work, &marked, sent);
-    Slotted {
-        delivered: got.delivered,
-        dropped: got.dropped,
-        lined: left_of(placed, lined),
-    }
 }

@@ -1,15 +1,13 @@
--- `choose` judges the ready of the ordered in turn: what is placed so far and what is still to be judged stay together the same choice.
--- Assumes nothing.
-use Rattle.machinery.specs.Dues.{readyBy, ready-work}
-use Rattle.machinery.specs.Choice.{Chosen, Choice, chosen-none, chosen-more, chosen-skip, chosen-all, chosen-full, one-rest}
+-- `choose` judges the ordered in turn: what is placed so far and what is still to be judged stay together the same choice. Assumes nothing.
+use Rattle.clash.specs.Judged.{chosen-judged}
+use Rattle.machinery.specs.Dues.{readyBy}
+use Rattle.machinery.specs.Choice.{Chosen, chosen-none, chosen-all, chosen-full, one-rest}
 use Rattle.machinery.specs.Links.{linkIn, Busy, busy-none}
 use lib.Seq.{length-take-le, getD-take}
 use lib.ListN.{length, getD, take, drop}
 use native.Mathlib.Omega.{arith}
 use Prim.Native.Nat.{ℕ, _-_, _≤_, _<_, _+_}
-use mathlib.Core.Bool.{true, false}
-use mathlib.Core.List.{List, [], _∷_}
-use mathlib.Core.Path.{_≡_, refl, sym, ap₂, _∙_}
+use mathlib.Core.Path.{_≡_, refl}
 use borrow.Author.Needs.{needs}
 use Rattle.choice.proofs.choose.Statement.{statement}
 use Rattle.choice.proofs.choose.Tie as tie
@@ -46,41 +44,13 @@ mul-k c = search needs
 element-copy-out-k : tie.Need-element-copy-out-k Inv-loop μ-loop
 element-copy-out-k c = search needs
 
-mul-is-ready : tie.Need-mul-is-ready Inv-loop μ-loop
-mul-is-ready c = omega (arith, small (c .before .before))
-
-element-copy-out-is-ready : tie.Need-element-copy-out-is-ready Inv-loop μ-loop
-element-copy-out-is-ready c = small (c .before .before)
-
-mul-is-ready-2 : tie.Need-mul-is-ready-2 Inv-loop μ-loop
-mul-is-ready-2 c = omega (arith, small (c .before .before .before))
-
-element-copy-out-is-ready-2 : tie.Need-element-copy-out-is-ready-2 Inv-loop μ-loop
-element-copy-out-is-ready-2 c = small (c .before .before .before)
-
-element-copy-out-is-ready-3 : tie.Need-element-copy-out-is-ready-3 Inv-loop μ-loop
-element-copy-out-is-ready-3 c = small (c .before .before .before .before)
-
-element-copy-out-is-ready-4 : tie.Need-element-copy-out-is-ready-4 Inv-loop μ-loop
-element-copy-out-is-ready-4 c = small (c .before .before .before .before .before)
-
-is-ready-requires : tie.Need-is-ready-requires Inv-loop μ-loop
-is-ready-requires c κs = search needs
-
-element-copy-out-ends-of : tie.Need-element-copy-out-ends-of Inv-loop μ-loop
-element-copy-out-ends-of c = small (c .before .before .before .before .before .before .before .before)
-
-ends-of-requires : tie.Need-ends-of-requires Inv-loop μ-loop
-ends-of-requires c κs =
-    let a = c .before .before .before .before .before .before .before .before .before .before .before .args in
-    let k = getD (a .order .now) (c .before .before .before .before .before .before .before .before .before .before .loop .i) 0 in
-    let h = c .before .before .before .before .before .before .before .before .before .before .before .pre .1 .1 .1 k (ready-work (a .start .now) (a .due .now) (a .sent .now) (a .work .now) (a .t) k (sym (c .before .before .is-ready .ensures) ∙ c .before .if2 .taken)) in
-    (small (c .before .before .before .before .before .before .before .before .before), h .0, h .1)
-
-place-one-requires : tie.Need-place-one-requires Inv-loop μ-loop
-place-one-requires c κs =
-    let v = c .before .before .before .before .before .before .before .before .before .before .before .before .before .before .before .before .loop in
-    (small (c .before .before .before .before .before .before .before .before .before .before .before .before .before .before .before), omega (arith, c .before .before .before .before .before .before .before .before .before .before .before .before .before .before .if1 .left, v .inv .1 .few, c .before .before .before .before .before .before .before .before .before .before .before .before .before .before .before .before .before .pre .0 .0), v .inv .2, v .inv .1 .long-from, v .inv .1 .long-to)
+judge-flow-requires : tie.Need-judge-flow-requires Inv-loop μ-loop
+judge-flow-requires c κs =
+    let v = c .before .before .before .before .before .before .before .before .loop in
+    let p = c .before .before .before .before .before .before .before .before .before .pre in (
+      (small (c .before .before .before .before .before .before .before), omega (arith, c .before .before .before .before .before .before .if1 .left, v .inv .1 .few, p .0 .0), v .inv .2, v .inv .1 .long-from, v .inv .1 .long-to),
+      p .1 .1 .1 _,
+    )
 
 add-i : tie.Need-add-i Inv-loop μ-loop
 add-i c = search needs
@@ -90,38 +60,17 @@ loop-less c = search needs
 
 loop-again : tie.Need-loop-again Inv-loop μ-loop
 loop-again c =
-    let v = c .before .before .before .before .before .before .before .before .before .before .before .before .before .before .before .before .before .loop in
-    let s = c .before .before .before .before .before .before .before .before .before .before .before .before .before .before .before .before .before .before in
-    let l = c .before .before .before .before .before .before .before .before .before .before .before .before .before .before .before .before .loop-test .taken in
-    let k = getD (s .args .order .now) (v .i) 0 in
-    let w = long s in
-    let e = c .before .before .before .before .before .before .ends-of .ensures in
-    let o = c .place-one .ensures in (
-      omega (arith, l),
-      chosen-more _ _ _ _ (v .i) (v .placed) _ _ _ _ (v .inv .1) k _ _ (s .pre .0 .0) (omega (arith, c .before .before .before .before .before .before .before .before .before .before .before .before .before .before .before .if1 .left, v .inv .1 .few)) (rw w l)
-          (getD-take (s .args .lined) (s .args .order .now) (v .i) 0 l) (sym (c .before .before .before .before .before .before .before .before .before .is-ready .ensures) ∙ c .before .before .before .before .before .before .before .before .if2 .taken) (small (c .before .before .before .before .before .before .before .before .before .before .before .before .before .before .before .before))
-          (ap₂ (λ (x y : ℕ). x ∷ y ∷ []) (sym (e .0)) (sym (e .1))) _ _ _ _ _ (o .0),
-      o .1,
-      one-rest _ _ _ _ _ _ _ _ _ _ _ _ _ _ (o .0) (s .args .chosen .now) (v .inv .3),
-    )
-
-add-i-2 : tie.Need-add-i-2 Inv-loop μ-loop
-add-i-2 c = search needs
-
-loop-less-2 : tie.Need-loop-less-2 Inv-loop μ-loop
-loop-less-2 c = search needs
-
-loop-again-2 : tie.Need-loop-again-2 Inv-loop μ-loop
-loop-again-2 c =
     let v = c .before .before .before .before .before .before .before .before .before .loop in
     let s = c .before .before .before .before .before .before .before .before .before .before in
-    let k = getD (s .args .order .now) (v .i) 0 in
-    let w = long s in (
-      search needs,
-      chosen-skip _ _ _ _ (v .i) _ _ _ _ _ (v .inv .1) k (omega arith) (getD-take (s .args .lined) (s .args .order .now) (v .i) 0 (search needs))
-          (sym (c .before .is-ready .ensures) ∙ c .if2 .left),
-      v .inv .2,
-      v .inv .3,
+    let l = c .before .before .before .before .before .before .before .before .loop-test .taken in
+    let a = s .args in
+    let w = long s in
+    let o = c .judge-flow .ensures in (
+      omega (arith, l),
+      chosen-judged _ (a .sent .now) (a .tries .now) (a .routes .now) (readyBy (a .start .now) (a .due .now) (a .sent .now) (a .work .now) (a .t)) _ (v .i) (v .placed) _ _ _ _ (v .inv .1) _ (s .pre .0 .0)
+          (omega (arith, c .before .before .before .before .before .before .before .if1 .left, v .inv .1 .few)) (rw w l) (getD-take (a .lined) (a .order .now) (v .i) 0 l) (small (c .before .before .before .before .before .before .before .before)) _ _ _ _ _ (o .0),
+      o .1,
+      one-rest _ _ _ _ _ _ _ _ _ _ _ _ _ _ (o .0) (a .chosen .now) (v .inv .3),
     )
 
 returns-2 : tie.Need-returns-2 Inv-loop μ-loop
@@ -141,20 +90,8 @@ choose-spec =
     returns
     mul-k
     element-copy-out-k
-    mul-is-ready
-    element-copy-out-is-ready
-    mul-is-ready-2
-    element-copy-out-is-ready-2
-    element-copy-out-is-ready-3
-    element-copy-out-is-ready-4
-    is-ready-requires
-    element-copy-out-ends-of
-    ends-of-requires
-    place-one-requires
+    judge-flow-requires
     add-i
     loop-less
     loop-again
-    add-i-2
-    loop-less-2
-    loop-again-2
     returns-2)

@@ -14,17 +14,8 @@ is-taken-requires c κs = search needs
 returns : tie.Need-returns
 returns c = (one-none _ _ _ _ _ _ _ _ _ (ap not (sym (c .before .is-taken .ensures) ∙ c .if1 .taken)), c .before .before .before .before .before .pre .2)
 
-cast-f : tie.Need-cast-f
-cast-f c = search needs
-
-cast-g : tie.Need-cast-g
-cast-g c = search needs
-
-element-write-busy : tie.Need-element-write-busy
-element-write-busy c = search needs
-
-element-write-busy-2 : tie.Need-element-write-busy-2
-element-write-busy-2 c = search needs
+mark-ends-requires : tie.Need-mark-ends-requires
+mark-ends-requires c κs = search needs
 
 mul-from : tie.Need-mul-from
 mul-from c = search needs
@@ -53,7 +44,7 @@ add-result c = search needs
 returns-2 : tie.Need-returns-2
 returns-2 c =
     let p = c .before .before .before .before .before .before .before .pre in
-    (one-more _ _ _ _ _ _ _ _ _ (ap not (sym (c .before .before .before .is-taken .ensures) ∙ c .before .before .if1 .left)), busy-more _ _ _ _ _ _ (omega (arith, p .1, p .3)) (omega (arith, p .1, p .4)) (p .2))
+    (one-more _ _ _ _ _ _ _ _ _ (ap not (sym (c .before .before .before .is-taken .ensures) ∙ c .before .before .if1 .left)), rw (c .mark-ends .ensures) (busy-more _ _ _ _ _ _ (omega (arith, p .1, p .3)) (omega (arith, p .1, p .4)) (p .2)))
 
 pub place-one-spec : {M : Type 1} → statement M
 place-one-spec =
@@ -61,10 +52,7 @@ place-one-spec =
     (tie.spec
     is-taken-requires
     returns
-    cast-f
-    cast-g
-    element-write-busy
-    element-write-busy-2
+    mark-ends-requires
     mul-from
     element-write-from
     mul-to
