@@ -5,12 +5,12 @@ ghost use mathlib.Core.Path.{_≡_};
 ghost use Rattle.model.specs.Reader.{recordFault};
 ghost use Rattle.model.specs.Refusals.{noFault};
 ghost use Rattle.model.specs.Sets.{used};
+use c_numbers::BoundsAnswer;
+use c_numbers::SlotAnswer;
+use c_numbers::VerdictAnswer;
 use model::FlowSet;
 use model::Reading;
 use model::Written;
-use planner::BoundsAnswer;
-use planner::SlotAnswer;
-use planner::VerdictAnswer;
 
 pub struct TwoPlaces(pub usize, pub usize);
 
@@ -34,8 +34,8 @@ pub fn put_plan(s: FlowSet, x: &mut [u8], y: &mut [u8]) -> TwoPlaces
 pub fn plan(input: &[u8], x: &mut [u8], y: &mut [u8]) -> TwoWritten
     ensures { λ r. ⌜ ((now (x .entry) ≡ now (y .entry)) → ((r .0 ≡ r .1) × (now (x .exit) ≡ now (y .exit)))) ⌝ }
 {
-    let a = planner::plan(input, x);
-    let b = planner::plan(input, y);
+    let a = plan_text::plan(input, x);
+    let b = plan_text::plan(input, y);
     TwoWritten(a, b)
 }
 

@@ -21,8 +21,8 @@ use Rattle.model.specs.Program.{boundLines, runLines, sendLines, planOf, verdic
 use Rattle.laws.specs.Accepted.{accepted}
 use Rattle.machinery.specs.States.{good-not-bad, step-good, run-next, run-good}
 use Rattle.printing.specs.Lengths.{line-le, bounds-le, sends-le}
-use Rattle.printing.specs.Margins.{boundText, bound-text}
-use Rattle.printing.specs.Steps.{lines-of, sends-few}
+use Rattle.bound_line.specs.BoundText.{boundText, bound-text}
+use Rattle.machinery.specs.Steps.{lines-of, sends-few}
 
 -- the margin is deadline less bound, of a refused answer too
 margin-is : (s : FlowSet) (k : ℕ) → boundsOf s k .margin ≡ pos (boundsOf s k .deadline .0) -ℤ pos (boundsOf s k .tightened)

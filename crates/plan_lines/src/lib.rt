@@ -8,12 +8,12 @@ ghost use Rattle.model.specs.Reader.{recordFault};
 ghost use Rattle.model.specs.Program.{boundLines, runLines, planOf};
 ghost use Rattle.puts.specs.Stores.{Put};
 ghost use Rattle.rounds.specs.Answers.{AllBoundsOf};
+use bound_line::put_bound;
 use model::FlowSet;
 use model::State;
-use printing::put_bound;
 use printing::put_sends;
-use printing::put_verdict;
 use rounds::AllBounds;
+use verdict_line::put_verdict;
 
 // The `bound` lines of a set's flows, from the bounds of all.
 fn put_bounds(out: &mut [u8], at: usize, s: FlowSet, j: AllBounds) -> usize

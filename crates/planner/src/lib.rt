@@ -7,34 +7,9 @@ ghost use Rattle.planner.specs.ForC.{verdictForC, boundsForC, slotForC};
 
 mod reading;
 
-pub use plan_text::plan;
-
-#[repr(C)]
-pub struct VerdictAnswer {
-    pub refusal: u32,
-    pub line: u32,
-    pub basic: u32,
-    pub tightened: u32,
-    pub rounds: u32,
-}
-
-#[repr(C)]
-pub struct BoundsAnswer {
-    pub refusal: u32,
-    pub line: u32,
-    pub work: u32,
-    pub basic: u32,
-    pub tightened: u32,
-    pub deadline: u32,
-    pub margin: i32,
-}
-
-#[repr(C)]
-pub struct SlotAnswer {
-    pub refusal: u32,
-    pub line: u32,
-    pub length: usize,
-}
+use c_numbers::BoundsAnswer;
+use c_numbers::SlotAnswer;
+use c_numbers::VerdictAnswer;
 
 // Both verdicts of the set in `text`; a text that is refused has the reader's refusal and line, and zeros.
 #[no_mangle]

@@ -1,2 +1,1 @@
-mod Stepping
 mod Slotting

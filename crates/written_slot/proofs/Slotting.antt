@@ -25,8 +25,11 @@ use Rattle.model.specs.Machine.{stepOf, stepIf, stepFault, sendsAt, sendsFrom, 
 use Rattle.model.specs.Program.{stateOf, stateBytes, stateLength, sendLines, slotLines, slotFault, slotState, slotBuffer}
 use Rattle.laws.specs.Used.{used-map}
 use Rattle.laws.specs.Accepted.{or-else-good}
-use Rattle.printing.specs.Steps.{lines-of}
-use Rattle.written_slot.specs.Slots.{slotAnswer, refusedWriting, earlyFault, stepLines, roomFault, stepAnswer, stepState, stepBuffer}
+use Rattle.machinery.specs.Steps.{lines-of}
+use Rattle.state_bytes.specs.Bytes.{with-state}
+use Rattle.refusals.specs.Early.{refusedWriting, earlyFault}
+use Rattle.written_step.specs.Steps.{stepLines, roomFault, stepAnswer, stepState, stepBuffer}
+use Rattle.written_slot.specs.Slots.{slotAnswer}
 
 abbrev stepFor : Reading → List ℕ → Stepped
 stepFor r state = stepOf (used (r .set)) (stateOf state)
@@ -109,16 +112,16 @@ step-first : (a : Stepped) (room : ℕ) → good (roomFault a room .refusal) ≡
 unfolding roomFault
 step-first a room h = or-else-good (a .fault) (roomed (stepLines a) room) h .0
 
-pub answered : (r : Reading) (state lines : List ℕ) (a : Stepped) → Agrees r state a
+pub answered : (r : Reading) (state lines : List ℕ) (a : Stepped) → Agrees r state a → length state ≡ stateLength
     → Answered r state lines (stepAnswer a (length lines)) (stepState a state (length lines)) (stepBuffer a lines)
 unfolding slotAnswer slotState slotBuffer stepAnswer stepState stepBuffer
-answered r state lines a g =
+answered r state lines a g w =
     let n = length lines in
     let l : good (roomFault a n .refusal) ≡ true → stepLines a ≡ slotLines (used (r .set)) state = λ h. sym (g .lines-is (step-first a n h)) in
     rw (g .fault-is n) (
       ap (λ (k : ℕ). answerOf (roomFault a n) k) (cond-same (good (roomFault a n .refusal)) _ _ 0 (λ h. ap (λ (u : List ℕ). length u) (l h))),
       (
-        cond-same (good (roomFault a n .refusal)) _ _ state (λ h. ap stateBytes (sym (g .next-is (step-first a n h)))),
+        cond-same (good (roomFault a n .refusal)) _ _ state (λ h. with-state (a .next) state w ∙ ap stateBytes (sym (g .next-is (step-first a n h)))),
         cond-same (good (roomFault a n .refusal)) _ _ lines (λ h. ap (λ (u : List ℕ). u ++ drop (length u) lines) (l h)),
       ),
     )
@@ -146,4 +149,4 @@ module _ (r : Reading) (state : List ℕ) (f : Fault) (q : Early r state f) wher
 
   pub step-answered : (a : Stepped) (lines : List ℕ) → a ≡ stepFor r state
       → Answered r state lines (stepAnswer a (length lines)) (stepState a state (length lines)) (stepBuffer a lines)
-  step-answered a lines e = answered r state lines a (rw e (agrees r state early-passed (q .bits)))
+  step-answered a lines e = answered r state lines a (rw e (agrees r state early-passed (q .bits))) state-whole

@@ -2,7 +2,7 @@ use mathlib.Core.Path.{ap, _∙_}
 use Rattle.model.specs.declared.kinds.State.{State}
 use Rattle.model.specs.Sets.{used}
 use Rattle.model.specs.Machine.{stepOf}
-use Rattle.printing.specs.Codes.{is-good, not-good}
+use Rattle.refusals.specs.Codes.{is-good, not-good}
 use Rattle.written_slot.proofs.Slotting.{Early, answered-early, state-whole, step-answered}
 use borrow.Author.Needs.{needs}
 use Rattle.written_slot.proofs.slot.Statement.{statement}
@@ -11,9 +11,9 @@ use Rattle.written_slot.proofs.slot.Reads as reads
 use Rattle.written_slot.proofs.slot.Lts as lts
 use Rattle.model.proofs.answers.Refusal.code.Reads as code-reads
 use Rattle.machine.proofs.step.Reads as step-reads
-use Rattle.written_slot.proofs.early.Reads as early-reads
-use Rattle.written_slot.proofs.refused.Reads as refused-reads
-use Rattle.written_slot.proofs.write_step.Reads as write-step-reads
+use Rattle.refusals.proofs.early.Reads as early-reads
+use Rattle.refusals.proofs.refused.Reads as refused-reads
+use Rattle.written_step.proofs.write_step.Reads as write-step-reads
 use Rattle.state_bytes.specs.Bytes.{state-in}
 
 early-requires : tie.Need-early-requires
@@ -38,10 +38,7 @@ step-requires : tie.Need-step-requires
 step-requires c κs = search needs
 
 write-step-requires : tie.Need-write-step-requires
-write-step-requires c κs =
-    let s = c .before .before .before .before .before .before .before .before .before .before .before in
-    let q : Early (s .args .reading) (s .args .state .now) (c .before .before .before .before .before .before .before .before .early .result) = record { fault-is = c .before .before .before .before .before .before .before .before .early .ensures; passed = is-good (c .before .before .before .before .before .before .before .before .early .result .refusal) (c .before .before .before .before .before .before .before .code .ensures) (c .before .before .before .before .before .before .if1 .left); bits = s .good .0 .1 .1 .1 .0 .1 .1 .0 .1 .1 .0 .1 } in
-    state-whole (s .args .reading) (s .args .state .now) (c .before .before .before .before .before .before .before .before .early .result) q
+write-step-requires c κs = search needs
 
 same-length : tie.Need-same-length
 same-length c = search needs
