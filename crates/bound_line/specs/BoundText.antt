@@ -7,7 +7,7 @@ use Rattle.model.specs.declared.answers.Bounds.{Bounds}
 use Rattle.model.specs.Text.{decimal, decimals, tabbed}
 use Rattle.model.specs.Program.{boundWord, boundLine, signed}
 use Rattle.puts.specs.Stores.{fieldsOf}
-use Rattle.margin.specs.Margins.{marginText, signed-margin}
+use Rattle.margin_text.specs.Margins.{marginText, signed-margin}
 
 abbrev pub boundNumbers : ℕ → Bounds → List ℕ
 boundNumbers k b = k ∷ b .work ∷ b .basic ∷ b .tightened ∷ b .deadline .0 ∷ []

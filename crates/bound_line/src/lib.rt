@@ -12,6 +12,6 @@ pub fn put_bound(out: &mut [u8], at: usize, k: u16, b: Bounds) -> usize
     let numbers = [k as u32, b.work, b.basic, b.tightened, deadline];
     let first = puts::put_word(out, at, b"bound");
     let second = puts::put_fields(out, first, &numbers);
-    let third = margin::put_margin(out, second, deadline, b.tightened);
+    let third = margin_text::put_margin(out, second, deadline, b.tightened);
     puts::put_byte(out, third, 10)
 }

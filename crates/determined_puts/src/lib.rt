@@ -8,6 +8,8 @@ pub struct TwoPlaces(pub usize, pub usize);
 
 pub struct TwoStates(pub State, pub State);
 
+pub struct TwoSlots(pub [u8; 4], pub [u8; 4]);
+
 pub fn width(v: u32) -> TwoPlaces
     ensures { λ r. ⌜ r .0 ≡ r .1 ⌝ }
 {
@@ -62,6 +64,14 @@ pub fn put_line(x: &mut [u8], y: &mut [u8], at: usize, word: &[u8], numbers: &[u
     let a = puts::put_line(x, at, word, numbers);
     let b = puts::put_line(y, at, word, numbers);
     TwoPlaces(a, b)
+}
+
+pub fn slot_bytes(t: u32) -> TwoSlots
+    ensures { λ r. ⌜ r .0 ≡ r .1 ⌝ }
+{
+    let a = slot_bytes::slot_bytes(t);
+    let b = slot_bytes::slot_bytes(t);
+    TwoSlots(a, b)
 }
 
 pub fn state_of(b: &[u8]) -> TwoStates

@@ -5,14 +5,13 @@ ghost use lib.ListN.{length};
 ghost use Rattle.model.specs.Refusals.{noFault};
 ghost use Rattle.model.specs.Sets.{used};
 ghost use Rattle.model.specs.Reader.{recordFault};
-ghost use Rattle.model.specs.Program.{boundLines, runLines, planOf};
+ghost use Rattle.model.specs.Program.{boundLines, planOf};
 ghost use Rattle.puts.specs.Stores.{Put};
 ghost use Rattle.rounds.specs.Answers.{AllBoundsOf};
 use bound_line::put_bound;
 use model::FlowSet;
-use model::State;
-use printing::put_sends;
 use rounds::AllBounds;
+use run_lines::put_run;
 use verdict_line::put_verdict;
 
 // The `bound` lines of a set's flows, from the bounds of all.
@@ -27,25 +26,6 @@ fn put_bounds(out: &mut [u8], at: usize, s: FlowSet, j: AllBounds) -> usize
         let b = delay::bounds_of(s, k, j);
         place = put_bound(out, place, k, b);
         k += 1;
-    }
-    place
-}
-
-// The `send` lines of the first twelve slots.
-fn put_run(out: &mut [u8], at: usize, s: FlowSet) -> usize
-    requires { ⌜ recordFault (used s) ≡ noFault ⌝ }
-    ensures { λ r. ⌜ Put (now (out .entry)) at (runLines (used s) 12) (now (out .exit)) r ⌝ }
-{
-    let mut st = State::fresh();
-    let mut place = at;
-    let mut t: usize = 0;
-    while t < 12 {
-        let a = machine::step(s, st);
-        let sent = a.sent;
-        place = put_sends(out, place, sent, a.sends);
-        let next = a.next;
-        st = next;
-        t += 1;
     }
     place
 }

@@ -8,7 +8,7 @@ use Rattle.bound_line.proofs.put_bound.Statement.{statement}
 use Rattle.bound_line.proofs.put_bound.Tie as tie
 use Rattle.bound_line.proofs.put_bound.Reads as reads
 use Rattle.bound_line.proofs.put_bound.Lts as lts
-use Rattle.margin.proofs.put_margin.Reads as put-margin-reads
+use Rattle.margin_text.proofs.put_margin.Reads as put-margin-reads
 use Rattle.puts.proofs.put_byte.Reads as put-byte-reads
 use Rattle.puts.proofs.put_fields.Reads as put-fields-reads
 use Rattle.puts.proofs.put_word.Reads as put-word-reads
