@@ -6,8 +6,8 @@ use Rattle.model.specs.Reader.{writeAnswer, writeInto}
 use Rattle.model.specs.Sets.{used}
 use Rattle.probe.specs.Told.{toldWritten}
 use Prim.{tt}
-use Rattle.determined_probe.proofs.probe_write.Statement.{statement}
-use Rattle.determined_probe.proofs.probe_write.Tie as tie
+use Rattle.determined_calls.proofs.probe_write.Statement.{statement}
+use Rattle.determined_calls.proofs.probe_write.Tie as tie
 
 probe-write-requires : tie.Need-probe-write-requires
 probe-write-requires c κs = tt

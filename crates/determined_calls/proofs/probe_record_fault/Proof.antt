@@ -1,7 +1,7 @@
 use mathlib.Core.Path.{_∙_, sym}
 use Prim.{tt}
-use Rattle.determined_probe.proofs.probe_record_fault.Statement.{statement}
-use Rattle.determined_probe.proofs.probe_record_fault.Tie as tie
+use Rattle.determined_calls.proofs.probe_record_fault.Statement.{statement}
+use Rattle.determined_calls.proofs.probe_record_fault.Tie as tie
 
 probe-record-fault-requires : tie.Need-probe-record-fault-requires
 probe-record-fault-requires c κs = tt

@@ -1,7 +1,7 @@
 use mathlib.Core.Path.{_∙_, sym}
 use Prim.{tt}
-use Rattle.determined_probe.proofs.probe_bounds.Statement.{statement}
-use Rattle.determined_probe.proofs.probe_bounds.Tie as tie
+use Rattle.determined_calls.proofs.probe_bounds.Statement.{statement}
+use Rattle.determined_calls.proofs.probe_bounds.Tie as tie
 
 probe-bounds-requires : tie.Need-probe-bounds-requires
 probe-bounds-requires c κs = tt

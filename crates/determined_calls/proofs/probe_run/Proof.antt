@@ -1,7 +1,7 @@
 use mathlib.Core.Path.{_∙_, sym}
 use Prim.{tt}
-use Rattle.determined_probe.proofs.probe_run.Statement.{statement}
-use Rattle.determined_probe.proofs.probe_run.Tie as tie
+use Rattle.determined_calls.proofs.probe_run.Statement.{statement}
+use Rattle.determined_calls.proofs.probe_run.Tie as tie
 
 probe-run-requires : tie.Need-probe-run-requires
 probe-run-requires c κs = tt

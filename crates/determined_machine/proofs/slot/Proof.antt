@@ -5,8 +5,8 @@ use lib.ListN.{length}
 use Rattle.model.specs.Program.{slotState, slotBuffer}
 use Rattle.written_slot.specs.Slots.{slotAnswer}
 use Prim.{tt}
-use Rattle.determined_calls.proofs.slot.Statement.{statement}
-use Rattle.determined_calls.proofs.slot.Tie as tie
+use Rattle.determined_machine.proofs.slot.Statement.{statement}
+use Rattle.determined_machine.proofs.slot.Tie as tie
 
 slot-requires : tie.Need-slot-requires
 slot-requires c κs = tt

@@ -5,8 +5,8 @@ use lib.ListN.{length}
 use Rattle.plan_text.specs.Plans.{planAnswer, planInto}
 use Rattle.probe.specs.Told.{toldWritten}
 use Prim.{tt}
-use Rattle.determined_probe.proofs.probe_plan.Statement.{statement}
-use Rattle.determined_probe.proofs.probe_plan.Tie as tie
+use Rattle.determined_calls.proofs.probe_plan.Statement.{statement}
+use Rattle.determined_calls.proofs.probe_plan.Tie as tie
 
 probe-plan-requires : tie.Need-probe-plan-requires
 probe-plan-requires c κs = tt

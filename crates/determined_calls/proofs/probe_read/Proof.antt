@@ -1,7 +1,7 @@
 use mathlib.Core.Path.{_∙_, sym}
 use Prim.{tt}
-use Rattle.determined_probe.proofs.probe_read.Statement.{statement}
-use Rattle.determined_probe.proofs.probe_read.Tie as tie
+use Rattle.determined_calls.proofs.probe_read.Statement.{statement}
+use Rattle.determined_calls.proofs.probe_read.Tie as tie
 
 probe-read-requires : tie.Need-probe-read-requires
 probe-read-requires c κs = tt

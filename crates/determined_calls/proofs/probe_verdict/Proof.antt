@@ -1,7 +1,7 @@
 use mathlib.Core.Path.{_∙_, sym}
 use Prim.{tt}
-use Rattle.determined_probe.proofs.probe_verdict.Statement.{statement}
-use Rattle.determined_probe.proofs.probe_verdict.Tie as tie
+use Rattle.determined_calls.proofs.probe_verdict.Statement.{statement}
+use Rattle.determined_calls.proofs.probe_verdict.Tie as tie
 
 probe-verdict-requires : tie.Need-probe-verdict-requires
 probe-verdict-requires c κs = tt

@@ -1,7 +1,7 @@
 use mathlib.Core.Path.{_∙_, sym}
 use Prim.{tt}
-use Rattle.determined_probe.proofs.probe_step.Statement.{statement}
-use Rattle.determined_probe.proofs.probe_step.Tie as tie
+use Rattle.determined_calls.proofs.probe_step.Statement.{statement}
+use Rattle.determined_calls.proofs.probe_step.Tie as tie
 
 probe-step-requires : tie.Need-probe-step-requires
 probe-step-requires c κs = tt
