@@ -2,9 +2,6 @@
 // was lent with the same contents ends with the same contents. That is proved from the contracts alone, since nothing else is seen
 // from here. Here: what C, the plan program and the comparison call.
 ghost use mathlib.Core.Path.{_≡_};
-ghost use Rattle.model.specs.Reader.{recordFault};
-ghost use Rattle.model.specs.Refusals.{noFault};
-ghost use Rattle.model.specs.Sets.{used};
 use c_numbers::BoundsAnswer;
 use c_numbers::SlotAnswer;
 use c_numbers::VerdictAnswer;
@@ -18,8 +15,6 @@ use probe::ProbeReading;
 use probe::ProbeStepped;
 use probe::ProbeVerdict;
 use probe::ProbeWritten;
-
-pub struct TwoPlaces(pub usize, pub usize);
 
 pub struct TwoWritten(pub Written, pub Written);
 
@@ -42,15 +37,6 @@ pub struct TwoBounds(pub ProbeBounds, pub ProbeBounds);
 pub struct TwoStepped(pub ProbeStepped, pub ProbeStepped);
 
 pub struct TwoRan(pub ProbeRan, pub ProbeRan);
-
-pub fn put_plan(s: FlowSet, x: &mut [u8], y: &mut [u8]) -> TwoPlaces
-    requires { ⌜ recordFault (used s) ≡ noFault ⌝ }
-    ensures { λ r. ⌜ ((now (x .entry) ≡ now (y .entry)) → ((r .0 ≡ r .1) × (now (x .exit) ≡ now (y .exit)))) ⌝ }
-{
-    let a = plan_lines::put_plan(x, s);
-    let b = plan_lines::put_plan(y, s);
-    TwoPlaces(a, b)
-}
 
 pub fn plan(input: &[u8], x: &mut [u8], y: &mut [u8]) -> TwoWritten
     ensures { λ r. ⌜ ((now (x .entry) ≡ now (y .entry)) → ((r .0 ≡ r .1) × (now (x .exit) ≡ now (y .exit)))) ⌝ }

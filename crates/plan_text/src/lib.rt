@@ -5,6 +5,9 @@ ghost use lib.ListN.{length};
 ghost use Rattle.model.specs.Program.{planText};
 ghost use Rattle.puts.specs.Stores.{Put};
 ghost use Rattle.plan_text.specs.Plans.{Passed, planRead, planAnswer, planInto};
+
+mod plan_lines;
+
 use input_limit::is_long;
 use input_limit::put_long;
 use model::Fault;

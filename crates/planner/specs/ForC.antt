@@ -9,7 +9,7 @@ use Rattle.model.specs.Refusals.{good}
 use Rattle.model.specs.Sets.{used}
 use Rattle.model.specs.Reader.{readText}
 use Rattle.model.specs.Delay.{verdictOf, boundsOf}
-use Rattle.written_slot.specs.Slots.{slotAnswer}
+use Rattle.planner.specs.Slots.{slotAnswer}
 use Rattle.c_numbers.specs.declared.VerdictAnswer.{VerdictAnswer}
 use Rattle.c_numbers.specs.declared.BoundsAnswer.{BoundsAnswer}
 use Rattle.c_numbers.specs.declared.SlotAnswer.{SlotAnswer}

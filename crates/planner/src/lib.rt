@@ -6,6 +6,7 @@ ghost use Rattle.model.specs.Program.{slotState, slotBuffer};
 ghost use Rattle.planner.specs.ForC.{verdictForC, boundsForC, slotForC};
 
 mod reading;
+mod slots;
 
 use c_numbers::BoundsAnswer;
 use c_numbers::SlotAnswer;
@@ -58,7 +59,7 @@ pub extern "C" fn rembasuk_slot(text: &[u8], state: &mut [u8], lines: &mut [u8])
     ensures { λ r. ⌜ now (lines .exit) ≡ slotBuffer (readText (now (text .entry))) (now (state .entry)) (now (lines .entry)) ⌝ }
 {
     let reading = text::read(text);
-    let w = written_slot::slot(reading, state, lines);
+    let w = slots::slot(reading, state, lines);
     let fault = w.fault;
     let refusal = fault.refusal;
     SlotAnswer {

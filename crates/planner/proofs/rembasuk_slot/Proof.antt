@@ -2,7 +2,7 @@ use mathlib.Core.Path.{ap, _∙_}
 use lib.ListN.{length}
 use Rattle.model.specs.declared.answers.Reading.{Reading}
 use Rattle.model.specs.Program.{slotState, slotBuffer}
-use Rattle.written_slot.specs.Slots.{slotAnswer}
+use Rattle.planner.specs.Slots.{slotAnswer}
 use Rattle.planner.specs.ForC.{slotForC}
 use Rattle.c_numbers.specs.Numbers.{slotNumbers}
 use Rattle.c_numbers.proofs.Answers.{slot-numbers}
@@ -12,7 +12,7 @@ use Rattle.planner.proofs.rembasuk_slot.Tie as tie
 use Rattle.planner.proofs.rembasuk_slot.Reads as reads
 use Rattle.planner.proofs.rembasuk_slot.Lts as lts
 use Rattle.model.proofs.answers.Refusal.code.Reads as code-reads
-use Rattle.written_slot.proofs.slot.Reads as slot-reads
+use Rattle.planner.proofs.slots.slot.Reads as slot-reads
 use Rattle.text.proofs.read.Reads as read-reads
 
 read-requires : tie.Need-read-requires

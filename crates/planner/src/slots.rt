@@ -2,7 +2,7 @@
 ghost use mathlib.Core.Path.{_≡_};
 ghost use lib.ListN.{length};
 ghost use Rattle.model.specs.Program.{slotState, slotBuffer};
-ghost use Rattle.written_slot.specs.Slots.{slotAnswer};
+ghost use Rattle.planner.specs.Slots.{slotAnswer};
 use model::Reading;
 use model::Written;
 use refusals::early;

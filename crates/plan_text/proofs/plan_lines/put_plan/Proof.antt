@@ -7,10 +7,10 @@ use Rattle.model.specs.Sets.{used}
 use Rattle.model.specs.Program.{planOf, verdictLine, boundLines}
 use Rattle.laws.specs.Used.{used-count}
 use Rattle.puts.specs.Stores.{put-put, put-same, lastPlace}
-use Rattle.plan_lines.proofs.Planning.{plan-le}
+use Rattle.plan_text.proofs.Lines.{plan-le}
 use borrow.Author.Needs.{needs}
-use Rattle.plan_lines.proofs.put_plan.Statement.{statement}
-use Rattle.plan_lines.proofs.put_plan.Tie as tie
+use Rattle.plan_text.proofs.plan_lines.put_plan.Statement.{statement}
+use Rattle.plan_text.proofs.plan_lines.put_plan.Tie as tie
 
 all-bounds-requires : tie.Need-all-bounds-requires
 all-bounds-requires c κs = tt

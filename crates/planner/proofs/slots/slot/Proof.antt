@@ -3,12 +3,12 @@ use Rattle.model.specs.declared.kinds.State.{State}
 use Rattle.model.specs.Sets.{used}
 use Rattle.model.specs.Machine.{stepOf}
 use Rattle.refusals.specs.Codes.{is-good, not-good}
-use Rattle.written_slot.proofs.Slotting.{Early, answered-early, state-whole, step-answered}
+use Rattle.planner.proofs.Slotting.{Early, answered-early, state-whole, step-answered}
 use borrow.Author.Needs.{needs}
-use Rattle.written_slot.proofs.slot.Statement.{statement}
-use Rattle.written_slot.proofs.slot.Tie as tie
-use Rattle.written_slot.proofs.slot.Reads as reads
-use Rattle.written_slot.proofs.slot.Lts as lts
+use Rattle.planner.proofs.slots.slot.Statement.{statement}
+use Rattle.planner.proofs.slots.slot.Tie as tie
+use Rattle.planner.proofs.slots.slot.Reads as reads
+use Rattle.planner.proofs.slots.slot.Lts as lts
 use Rattle.model.proofs.answers.Refusal.code.Reads as code-reads
 use Rattle.machine.proofs.step.Reads as step-reads
 use Rattle.refusals.proofs.early.Reads as early-reads

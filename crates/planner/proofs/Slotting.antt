@@ -29,7 +29,7 @@ use Rattle.machinery.specs.Steps.{lines-of}
 use Rattle.state_bytes.specs.Bytes.{with-state}
 use Rattle.refusals.specs.Early.{refusedWriting, earlyFault}
 use Rattle.written_step.specs.Steps.{stepLines, roomFault, stepAnswer, stepState, stepBuffer}
-use Rattle.written_slot.specs.Slots.{slotAnswer}
+use Rattle.planner.specs.Slots.{slotAnswer}
 
 abbrev stepFor : Reading → List ℕ → Stepped
 stepFor r state = stepOf (used (r .set)) (stateOf state)

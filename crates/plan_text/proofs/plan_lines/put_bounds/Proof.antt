@@ -7,10 +7,10 @@ use Rattle.model.specs.Sets.{used}
 use Rattle.model.specs.Program.{boundLines}
 use Rattle.bound_line.specs.BoundText.{boundText}
 use Rattle.puts.specs.Stores.{Putting, putting-start, putting-more, putting-done}
-use Rattle.plan_lines.proofs.Planning.{bounds-more}
+use Rattle.plan_text.proofs.Lines.{bounds-more}
 use borrow.Author.Needs.{needs}
-use Rattle.plan_lines.proofs.put_bounds.Statement.{statement}
-use Rattle.plan_lines.proofs.put_bounds.Tie as tie
+use Rattle.plan_text.proofs.plan_lines.put_bounds.Statement.{statement}
+use Rattle.plan_text.proofs.plan_lines.put_bounds.Tie as tie
 
 abbrev Inv-loop : tie.InvT-loop
 Inv-loop out₀ at s j n place₀ k₀ out place k = Putting out₀ at (boundLines (used s)) n out place k
