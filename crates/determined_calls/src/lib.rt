@@ -1,18 +1,20 @@
 // Each contract determines its function's result: called twice on the same inputs, a function gives the same answer, and memory that
 // was lent with the same contents ends with the same contents. That is proved from the contracts alone, since nothing else is seen
-// from here. Here: what C and the plan program call.
+// from here. Here: what C, the plan program and the comparison call.
 ghost use mathlib.Core.Path.{_≡_};
-ghost use Rattle.model.specs.Reader.{recordFault};
-ghost use Rattle.model.specs.Refusals.{noFault};
-ghost use Rattle.model.specs.Sets.{used};
+use c_numbers::BoundsAnswer;
+use c_numbers::SlotAnswer;
+use c_numbers::VerdictAnswer;
 use model::FlowSet;
-use model::Reading;
+use model::State;
 use model::Written;
-use planner::BoundsAnswer;
-use planner::SlotAnswer;
-use planner::VerdictAnswer;
-
-pub struct TwoPlaces(pub usize, pub usize);
+use probe::ProbeBounds;
+use probe::ProbeFault;
+use probe::ProbeRan;
+use probe::ProbeReading;
+use probe::ProbeStepped;
+use probe::ProbeVerdict;
+use probe::ProbeWritten;
 
 pub struct TwoWritten(pub Written, pub Written);
 
@@ -22,20 +24,25 @@ pub struct TwoBoundsAnswer(pub BoundsAnswer, pub BoundsAnswer);
 
 pub struct TwoSlotAnswer(pub SlotAnswer, pub SlotAnswer);
 
-pub fn put_plan(s: FlowSet, x: &mut [u8], y: &mut [u8]) -> TwoPlaces
-    requires { ⌜ recordFault (used s) ≡ noFault ⌝ }
-    ensures { λ r. ⌜ ((now (x .entry) ≡ now (y .entry)) → ((r .0 ≡ r .1) × (now (x .exit) ≡ now (y .exit)))) ⌝ }
-{
-    let a = plan_lines::put_plan(x, s);
-    let b = plan_lines::put_plan(y, s);
-    TwoPlaces(a, b)
-}
+pub struct TwoFault(pub ProbeFault, pub ProbeFault);
+
+pub struct TwoReading(pub ProbeReading, pub ProbeReading);
+
+pub struct TwoProbeWritten(pub ProbeWritten, pub ProbeWritten);
+
+pub struct TwoVerdict(pub ProbeVerdict, pub ProbeVerdict);
+
+pub struct TwoBounds(pub ProbeBounds, pub ProbeBounds);
+
+pub struct TwoStepped(pub ProbeStepped, pub ProbeStepped);
+
+pub struct TwoRan(pub ProbeRan, pub ProbeRan);
 
 pub fn plan(input: &[u8], x: &mut [u8], y: &mut [u8]) -> TwoWritten
     ensures { λ r. ⌜ ((now (x .entry) ≡ now (y .entry)) → ((r .0 ≡ r .1) × (now (x .exit) ≡ now (y .exit)))) ⌝ }
 {
-    let a = planner::plan(input, x);
-    let b = planner::plan(input, y);
+    let a = plan_text::plan(input, x);
+    let b = plan_text::plan(input, y);
     TwoWritten(a, b)
 }
 
@@ -55,17 +62,6 @@ pub fn rembasuk_bounds(text: &[u8], flow: u32) -> TwoBoundsAnswer
     TwoBoundsAnswer(a, b)
 }
 
-pub fn slot(reading: Reading, s: &mut [u8], u: &mut [u8], x: &mut [u8], y: &mut [u8]) -> TwoWritten
-    ensures { λ r. ⌜
-        (((now (s .entry) ≡ now (u .entry)) × (now (x .entry) ≡ now (y .entry)))
-        → ((r .0 ≡ r .1) × (now (s .exit) ≡ now (u .exit)) × (now (x .exit) ≡ now (y .exit))))
-        ⌝ }
-{
-    let a = written_slot::slot(reading, s, x);
-    let b = written_slot::slot(reading, u, y);
-    TwoWritten(a, b)
-}
-
 pub fn rembasuk_slot(
     text: &[u8],
     s: &mut [u8],
@@ -81,4 +77,68 @@ pub fn rembasuk_slot(
     let a = planner::rembasuk_slot(text, s, x);
     let b = planner::rembasuk_slot(text, u, y);
     TwoSlotAnswer(a, b)
+}
+
+pub fn probe_record_fault(s: FlowSet) -> TwoFault
+    ensures { λ r. ⌜ r .0 ≡ r .1 ⌝ }
+{
+    let a = probe::probe_record_fault(s);
+    let b = probe::probe_record_fault(s);
+    TwoFault(a, b)
+}
+
+pub fn probe_read(text: &[u8]) -> TwoReading
+    ensures { λ r. ⌜ r .0 ≡ r .1 ⌝ }
+{
+    let a = probe::probe_read(text);
+    let b = probe::probe_read(text);
+    TwoReading(a, b)
+}
+
+pub fn probe_write(s: FlowSet, x: &mut [u8], y: &mut [u8]) -> TwoProbeWritten
+    ensures { λ r. ⌜ ((now (x .entry) ≡ now (y .entry)) → ((r .0 ≡ r .1) × (now (x .exit) ≡ now (y .exit)))) ⌝ }
+{
+    let a = probe::probe_write(s, x);
+    let b = probe::probe_write(s, y);
+    TwoProbeWritten(a, b)
+}
+
+pub fn probe_plan(input: &[u8], x: &mut [u8], y: &mut [u8]) -> TwoProbeWritten
+    ensures { λ r. ⌜ ((now (x .entry) ≡ now (y .entry)) → ((r .0 ≡ r .1) × (now (x .exit) ≡ now (y .exit)))) ⌝ }
+{
+    let a = probe::probe_plan(input, x);
+    let b = probe::probe_plan(input, y);
+    TwoProbeWritten(a, b)
+}
+
+pub fn probe_verdict(s: FlowSet) -> TwoVerdict
+    ensures { λ r. ⌜ r .0 ≡ r .1 ⌝ }
+{
+    let a = probe::probe_verdict(s);
+    let b = probe::probe_verdict(s);
+    TwoVerdict(a, b)
+}
+
+pub fn probe_bounds(s: FlowSet, flow: u16) -> TwoBounds
+    ensures { λ r. ⌜ r .0 ≡ r .1 ⌝ }
+{
+    let a = probe::probe_bounds(s, flow);
+    let b = probe::probe_bounds(s, flow);
+    TwoBounds(a, b)
+}
+
+pub fn probe_step(s: FlowSet, st: State) -> TwoStepped
+    ensures { λ r. ⌜ r .0 ≡ r .1 ⌝ }
+{
+    let a = probe::probe_step(s, st);
+    let b = probe::probe_step(s, st);
+    TwoStepped(a, b)
+}
+
+pub fn probe_run(s: FlowSet, budget: u32) -> TwoRan
+    ensures { λ r. ⌜ r .0 ≡ r .1 ⌝ }
+{
+    let a = probe::probe_run(s, budget);
+    let b = probe::probe_run(s, budget);
+    TwoRan(a, b)
 }

@@ -1,14 +1,9 @@
 // Each contract determines its function's result: called twice on the same inputs, a function gives the same answer, and memory that
 // was lent with the same contents ends with the same contents. That is proved from the contracts alone, since nothing else is seen
-// from here. Here: what is put into lent memory.
+// from here. Here: what is put into lent memory, bytes, numbers and states.
 ghost use mathlib.Core.Path.{_≡_};
-use model::Bounds;
-use model::ChannelMap;
-use model::Fault;
 use model::FlowSet;
-use model::Send;
 use model::State;
-use model::Verdict;
 use model::Written;
 
 pub struct TwoPlaces(pub usize, pub usize);
@@ -16,6 +11,8 @@ pub struct TwoPlaces(pub usize, pub usize);
 pub struct TwoWritten(pub Written, pub Written);
 
 pub struct TwoStates(pub State, pub State);
+
+pub struct TwoSlots(pub [u8; 4], pub [u8; 4]);
 
 pub fn width(v: u32) -> TwoPlaces
     ensures { λ r. ⌜ r .0 ≡ r .1 ⌝ }
@@ -104,42 +101,12 @@ pub fn write_text(s: FlowSet, x: &mut [u8], y: &mut [u8]) -> TwoWritten
     TwoWritten(a, b)
 }
 
-pub fn put_refused(x: &mut [u8], y: &mut [u8], at: usize, fault: Fault) -> TwoPlaces
-    ensures { λ r. ⌜ ((now (x .entry) ≡ now (y .entry)) → ((r .0 ≡ r .1) × (now (x .exit) ≡ now (y .exit)))) ⌝ }
+pub fn slot_bytes(t: u32) -> TwoSlots
+    ensures { λ r. ⌜ r .0 ≡ r .1 ⌝ }
 {
-    let a = printing::put_refused(x, at, fault);
-    let b = printing::put_refused(y, at, fault);
-    TwoPlaces(a, b)
-}
-
-pub fn put_verdict(x: &mut [u8], y: &mut [u8], at: usize, v: Verdict) -> TwoPlaces
-    ensures { λ r. ⌜ ((now (x .entry) ≡ now (y .entry)) → ((r .0 ≡ r .1) × (now (x .exit) ≡ now (y .exit)))) ⌝ }
-{
-    let a = printing::put_verdict(x, at, v);
-    let b = printing::put_verdict(y, at, v);
-    TwoPlaces(a, b)
-}
-
-pub fn put_bound(x: &mut [u8], y: &mut [u8], at: usize, k: u16, b: Bounds) -> TwoPlaces
-    ensures { λ r. ⌜ ((now (x .entry) ≡ now (y .entry)) → ((r .0 ≡ r .1) × (now (x .exit) ≡ now (y .exit)))) ⌝ }
-{
-    let a = printing::put_bound(x, at, k, b);
-    let b = printing::put_bound(y, at, k, b);
-    TwoPlaces(a, b)
-}
-
-pub fn put_sends(
-    x: &mut [u8],
-    y: &mut [u8],
-    at: usize,
-    sent: [Send; ChannelMap::MOST],
-    n: u16,
-) -> TwoPlaces
-    ensures { λ r. ⌜ ((now (x .entry) ≡ now (y .entry)) → ((r .0 ≡ r .1) × (now (x .exit) ≡ now (y .exit)))) ⌝ }
-{
-    let a = printing::put_sends(x, at, sent, n);
-    let b = printing::put_sends(y, at, sent, n);
-    TwoPlaces(a, b)
+    let a = slot_bytes::slot_bytes(t);
+    let b = slot_bytes::slot_bytes(t);
+    TwoSlots(a, b)
 }
 
 pub fn state_of(b: &[u8]) -> TwoStates

@@ -9,3 +9,4 @@ pub mod Answers
 pub mod Slots
 pub mod Turns
 pub mod Runs
+pub mod Steps

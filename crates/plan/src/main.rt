@@ -6,7 +6,7 @@ fn main() {
     let mut input = [0u8; 16385];
     let n = io::read_full(STDIN_FILENO, &mut input);
     let mut out = [0u8; 18432];
-    let w = planner::plan(&input[..n], &mut out);
+    let w = plan_text::plan(&input[..n], &mut out);
     let m = w.length;
     io::write_all(STDOUT_FILENO, &out[..m]);
 }

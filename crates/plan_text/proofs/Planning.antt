@@ -9,6 +9,7 @@ use lib.Dec.{ltb}
 use lib.ListN.{length, take}
 use lib.Seq.{length-take-le}
 use Rattle.model.specs.declared.answers.Fault.{Fault}
+use Rattle.model.specs.declared.answers.Reading.{Reading}
 use Rattle.model.specs.declared.answers.Refusal.the-variants.{NoRoom}
 use Rattle.model.specs.Refusals.{good, faultAt, refusalNumber}
 use Rattle.model.specs.Sets.{used}
@@ -16,7 +17,7 @@ use Rattle.model.specs.Reader.{readText}
 use Rattle.model.specs.Program.{planOf, planText, planIf, refusedWord, refusedLine}
 use Rattle.printing.specs.Lengths.{line-le, put-length, put-long, put-start, put-read}
 use Rattle.puts.specs.Stores.{Put, put-same}
-use Rattle.plan_text.specs.Plans.{noRoom, planned, planAnswer, planInto}
+use Rattle.plan_text.specs.Plans.{planRead, noRoom, planned, planAnswer, planInto}
 
 -- a refusal is no longer than a plan can be
 pub refused-le : (f : Fault) → length (refusedLine f) ≤ 18432
@@ -28,24 +29,25 @@ abbrev planBy : List ℕ → Bool → List ℕ
 planBy input b =
     elim b as (λ (x : Bool). List ℕ) [
       | true ↦ refusedLine (faultAt NoRoom 0)
-      | false ↦ planIf (readText input) (good (readText input .fault .refusal))
+      | false ↦ planRead (readText input)
     ]
 
 by-length : (input : List ℕ) → planText input ≡ planBy input (ltb 16384 (length input))
 unfolding planText
 by-length input = refl
 
-pub text-long : (input : List ℕ) → 16384 < length input → planText input ≡ refusedLine (faultAt NoRoom 0)
-text-long input h = by-length input ∙ ap (planBy input) (lt-ltb 16384 (length input) h)
+pub text-long : (input : List ℕ) → ltb 16384 (length input) ≡ true → planText input ≡ refusedLine (faultAt NoRoom 0)
+text-long input h = by-length input ∙ ap (planBy input) h
 
-text-short : (input : List ℕ) (b : Bool) → length input ≤ 16384 → good (readText input .fault .refusal) ≡ b → planText input ≡ planIf (readText input) b
-text-short input b h g = by-length input ∙ ap (planBy input) (le-ltb 16384 (length input) h) ∙ ap (planIf (readText input)) g
+pub text-short : (input : List ℕ) → ltb 16384 (length input) ≡ false → planText input ≡ planRead (readText input)
+text-short input h = by-length input ∙ ap (planBy input) h
 
-pub text-good : (input : List ℕ) → length input ≤ 16384 → good (readText input .fault .refusal) ≡ true → planText input ≡ planOf (used (readText input .set))
-text-good input h g = text-short input true h g
+-- a plan, or a refusal
+pub read-good : (r : Reading) → good (r .fault .refusal) ≡ true → planRead r ≡ planOf (used (r .set))
+read-good r h = ap (planIf r) h
 
-pub text-refused : (input : List ℕ) → length input ≤ 16384 → good (readText input .fault .refusal) ≡ false → planText input ≡ refusedLine (readText input .fault)
-text-refused input h g = text-short input false h g
+pub read-refused : (r : Reading) → good (r .fault .refusal) ≡ false → planRead r ≡ refusedLine (r .fault)
+read-refused r h = ap (planIf r) h
 
 -- ---- the text in a lent buffer
 

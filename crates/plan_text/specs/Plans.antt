@@ -7,10 +7,21 @@ use borrow.Author.Tests.{ltb-false}
 use lib.Dec.{ltb}
 use lib.ListN.{length, drop}
 use Rattle.model.specs.declared.answers.Fault.{Fault}
+use Rattle.model.specs.declared.answers.Reading.{Reading}
 use Rattle.model.specs.declared.answers.Written.{Written}
 use Rattle.model.specs.declared.answers.Refusal.the-variants.{NoRoom}
-use Rattle.model.specs.Refusals.{faultAt, noFault}
-use Rattle.model.specs.Program.{planText}
+use Rattle.model.specs.Refusals.{good, faultAt, noFault}
+use Rattle.model.specs.Reader.{recordFault}
+use Rattle.model.specs.Sets.{used}
+use Rattle.model.specs.Program.{planIf, planText}
+
+-- a text that was read without fault passes the record check
+abbrev pub Passed : Reading → Type 0
+Passed r = good (r .fault .refusal) ≡ true → recordFault (used (r .set)) ≡ noFault
+
+-- what is printed for it, or for its refusal
+abbrev pub planRead : Reading → List ℕ
+planRead r = planIf r (good (r .fault .refusal))
 
 -- there is no room for the text
 abbrev pub noRoom : Written

@@ -4,25 +4,24 @@ ghost use Prim.Native.Nat.{_≤_};
 ghost use lib.ListN.{length};
 ghost use Rattle.model.specs.Program.{planText};
 ghost use Rattle.puts.specs.Stores.{Put};
-ghost use Rattle.plan_text.specs.Plans.{planAnswer, planInto};
+ghost use Rattle.plan_text.specs.Plans.{Passed, planRead, planAnswer, planInto};
+
+mod plan_lines;
+
+use input_limit::is_long;
+use input_limit::put_long;
 use model::Fault;
+use model::Reading;
 use model::Refusal;
 use model::Written;
 use plan_lines::put_plan;
 use printing::put_refused;
 
-// What the program prints for an input.
-fn put_text(out: &mut [u8], input: &[u8]) -> usize
-    ensures { λ r. ⌜ Put (now (out .entry)) 0 (planText (now (input .entry))) (now (out .exit)) r × (length (planText (now (input .entry))) ≤ 18432) ⌝ }
+// What the program prints for a text that was read.
+fn put_reading(out: &mut [u8], reading: Reading) -> usize
+    requires { ⌜ Passed reading ⌝ }
+    ensures { λ r. ⌜ Put (now (out .entry)) 0 (planRead reading) (now (out .exit)) r × (length (planRead reading) ≤ 18432) ⌝ }
 {
-    if 16384 < input.len() {
-        let fault = Fault {
-            refusal: Refusal::NoRoom,
-            line: 0,
-        };
-        return put_refused(out, 0, fault);
-    }
-    let reading = text::read(input);
     let fault = reading.fault;
     let refusal = fault.refusal;
     if refusal.code() == 0 {
@@ -31,6 +30,17 @@ fn put_text(out: &mut [u8], input: &[u8]) -> usize
     } else {
         put_refused(out, 0, fault)
     }
+}
+
+// What the program prints for an input.
+fn put_text(out: &mut [u8], input: &[u8]) -> usize
+    ensures { λ r. ⌜ Put (now (out .entry)) 0 (planText (now (input .entry))) (now (out .exit)) r × (length (planText (now (input .entry))) ≤ 18432) ⌝ }
+{
+    if is_long(input.len()) {
+        return put_long(out);
+    }
+    let reading = text::read(input);
+    put_reading(out, reading)
 }
 
 // The plan program's text for an input, at the start of the buffer; a buffer that is too short is left alone, with refusal 10.

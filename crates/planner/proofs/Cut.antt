@@ -13,7 +13,7 @@ use Rattle.model.specs.Refusals.{good, orElse, faultAt}
 use Rattle.model.specs.Sets.{used}
 use Rattle.model.specs.Delay.{boundsOf, boundsFault, boundsIf}
 use Rattle.model.specs.Reader.{recordFault}
-use Rattle.planner.specs.ForC.{refusedBounds}
+use Rattle.c_numbers.specs.Numbers.{refusedBounds}
 use Rattle.laws.specs.Used.{used-count}
 
 -- 13, if the set is not refused itself

@@ -6,35 +6,11 @@ ghost use Rattle.model.specs.Program.{slotState, slotBuffer};
 ghost use Rattle.planner.specs.ForC.{verdictForC, boundsForC, slotForC};
 
 mod reading;
+mod slots;
 
-pub use plan_text::plan;
-
-#[repr(C)]
-pub struct VerdictAnswer {
-    pub refusal: u32,
-    pub line: u32,
-    pub basic: u32,
-    pub tightened: u32,
-    pub rounds: u32,
-}
-
-#[repr(C)]
-pub struct BoundsAnswer {
-    pub refusal: u32,
-    pub line: u32,
-    pub work: u32,
-    pub basic: u32,
-    pub tightened: u32,
-    pub deadline: u32,
-    pub margin: i32,
-}
-
-#[repr(C)]
-pub struct SlotAnswer {
-    pub refusal: u32,
-    pub line: u32,
-    pub length: usize,
-}
+use c_numbers::BoundsAnswer;
+use c_numbers::SlotAnswer;
+use c_numbers::VerdictAnswer;
 
 // Both verdicts of the set in `text`; a text that is refused has the reader's refusal and line, and zeros.
 #[no_mangle]
@@ -83,7 +59,7 @@ pub extern "C" fn rembasuk_slot(text: &[u8], state: &mut [u8], lines: &mut [u8])
     ensures { λ r. ⌜ now (lines .exit) ≡ slotBuffer (readText (now (text .entry))) (now (state .entry)) (now (lines .entry)) ⌝ }
 {
     let reading = text::read(text);
-    let w = written_slot::slot(reading, state, lines);
+    let w = slots::slot(reading, state, lines);
     let fault = w.fault;
     let refusal = fault.refusal;
     SlotAnswer {

@@ -1,9 +1,9 @@
 // What is said of a set that was handed over as text: the reader's refusal, if there is one, before anything else.
 ghost use mathlib.Core.Path.{_≡_};
-ghost use mathlib.Core.Bool.{cond};
-ghost use lib.Dec.{ltb};
 ghost use Rattle.model.specs.Sums.{bit};
-ghost use Rattle.planner.specs.ForC.{verdictOfReading, boundsOfReading, refusedVerdict, refusedBounds};
+ghost use Rattle.c_numbers.specs.Numbers.{refusedVerdict, refusedBounds};
+ghost use Rattle.planner.specs.ForC.{verdictOfReading, boundsOfReading};
+use c_numbers::flow_number;
 use model::Bounds;
 use model::Fault;
 use model::Reading;
@@ -51,17 +51,6 @@ fn refused_bounds(fault: Fault) -> Bounds
         tightened: 0,
         deadline: Span(0),
         margin: 0,
-    }
-}
-
-// A flow number as the delay tests take it: 16 bits. There is no flow of any that is cut off.
-fn flow_number(flow: u32, count: u16) -> u16
-    ensures { λ r. ⌜ r ≡ cond (ltb flow count) flow count ⌝ }
-{
-    if flow < count as u32 {
-        flow as u16
-    } else {
-        count
     }
 }
 

@@ -1,5 +1,2 @@
-pub mod Codes
 pub mod Sends
 pub mod Lengths
-pub mod Margins
-pub mod Steps

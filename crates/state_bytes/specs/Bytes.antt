@@ -2,8 +2,8 @@
 use mathlib.Core.Path.{_≡_}
 use mathlib.Core.Bool.{cond}
 use mathlib.Core.Logic.{_≢_}
-use mathlib.Core.List.{List, [], _∷_}
-use Prim.Native.Nat.{ℕ, _+_, _*_, _/_, _%_}
+use mathlib.Core.List.{List}
+use Prim.Native.Nat.{ℕ, _+_, _*_}
 use borrow.Author.Tests.{eq-eqb, ne-eqb}
 use lib.Dec.{eqb}
 use lib.ListN.{getD, length}
@@ -14,9 +14,6 @@ use Rattle.model.specs.Program.{stateLength, stateOf, stateBytes}
 -- the slot in four bytes, lowest first
 abbrev pub slotOf : List ℕ → ℕ
 slotOf b = getD b 0 0 + getD b 1 0 * 256 + getD b 2 0 * 65536 + getD b 3 0 * 16777216
-
-abbrev pub slotBytes : ℕ → List ℕ
-slotBytes t = t % 256 ∷ t / 256 % 256 ∷ t / 65536 % 256 ∷ t / 16777216 % 256 ∷ []
 
 abbrev pub stateFrom : ℕ → List ℕ → State
 stateFrom t sent = record { slot = record { 0 = t }; sent = sent }

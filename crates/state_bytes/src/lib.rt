@@ -4,7 +4,8 @@ ghost use lib.ListN.{length, drop, take};
 ghost use Prim.Native.Nat.{_+_, _*_, _<_};
 ghost use mathlib.Core.List.{_++_};
 ghost use Rattle.model.specs.Program.{stateOf, stateBytes, stateLength};
-ghost use Rattle.state_bytes.specs.Bytes.{slotOf, slotBytes, stateIn, withState};
+ghost use Rattle.slot_bytes.specs.Bytes.{slotBytes};
+ghost use Rattle.state_bytes.specs.Bytes.{slotOf, stateIn, withState};
 use model::Flow;
 use model::Slot;
 use model::State;
@@ -57,10 +58,11 @@ fn put_slot(b: &mut [u8], t: u32)
     requires { ⌜ length (now b) ≡ stateLength ⌝ }
     ensures { λ r. ⌜ now (b .exit) ≡ slotBytes t ++ drop 4 (now (b .entry)) ⌝ }
 {
-    b[0] = (t % 256) as u8;
-    b[1] = (t / 256 % 256) as u8;
-    b[2] = (t / 65536 % 256) as u8;
-    b[3] = (t / 16777216 % 256) as u8;
+    let bytes = slot_bytes::slot_bytes(t);
+    b[0] = bytes[0];
+    b[1] = bytes[1];
+    b[2] = bytes[2];
+    b[3] = bytes[3];
 }
 
 fn put_counts(b: &mut [u8], sent: [u8; Flow::MOST])

@@ -14,7 +14,7 @@ use Rattle.plan.proofs.main.Reads as reads
 use Rattle.plan.proofs.main.Lts as lts
 use Rattle.io.proofs.read_full.Reads as read-full-reads
 use Rattle.io.proofs.write_all.Reads as write-all-reads
-use Rattle.planner.proofs.plan.Reads as plan-reads
+use Rattle.plan_text.proofs.plan.Reads as plan-reads
 
 within : {w : Written} (input out : List ℕ) → w ≡ planAnswer input (length (replicate {A = ℕ} 18432 0)) → length out ≡ 18432 → w .length ≤ length out
 within input out e h =
@@ -22,43 +22,33 @@ within input out e h =
     let b = ap (λ (x : Written). x .length) e in
     omega (arith, length-replicate {A = ℕ} 18432 0, a, b, h)
 
--- src/main.rt:7:41
 slice-aggregate-read-full : tie.Need-slice-aggregate-read-full
 slice-aggregate-read-full c = search needs
 
--- src/main.rt:7:9
 read-full-requires : tie.Need-read-full-requires
 read-full-requires c κs = search needs
 
--- src/main.rt:9:27
 array-share-prefix-input : tie.Need-array-share-prefix-input
 array-share-prefix-input c = search needs
 
--- src/main.rt:9:27
 slice-aggregate-plan : tie.Need-slice-aggregate-plan
 slice-aggregate-plan c = search needs
 
--- src/main.rt:9:40
 slice-aggregate-plan-2 : tie.Need-slice-aggregate-plan-2
 slice-aggregate-plan-2 c = search needs
 
--- src/main.rt:9:9
 plan-requires : tie.Need-plan-requires
 plan-requires c κs = search needs
 
--- src/main.rt:11:34
 array-share-prefix-out : tie.Need-array-share-prefix-out
 array-share-prefix-out c = within _ (c .before .plan .last .1 .0) (c .before .plan .ensures .0) (c .out2 .given)
 
--- src/main.rt:11:34
 slice-aggregate-write-all : tie.Need-slice-aggregate-write-all
 slice-aggregate-write-all c = sym (length-take-le _ (c .before .before .plan .last .1 .0) (within _ (c .before .before .plan .last .1 .0) (c .before .before .plan .ensures .0) (c .before .out2 .given)))
 
--- src/main.rt:11:5
 write-all-requires : tie.Need-write-all-requires
 write-all-requires c κs = search needs
 
--- src/main.rt:5:1
 returns : tie.Need-returns
 returns c = search needs
 

@@ -2,8 +2,9 @@ use mathlib.Core.Path.{_≡_, ap, _∙_}
 use mir.Syntax.{w32}
 use mir.Val.{toZ, ofZ}
 use Rattle.model.specs.declared.answers.Reading.{Reading}
-use Rattle.planner.specs.ForC.{boundsForC, boundsNumbers, boundsOfReading}
-use Rattle.planner.proofs.Answers.{bounds-numbers}
+use Rattle.planner.specs.ForC.{boundsForC, boundsOfReading}
+use Rattle.c_numbers.specs.Numbers.{boundsNumbers}
+use Rattle.c_numbers.proofs.Answers.{bounds-numbers}
 use borrow.Author.Needs.{needs}
 use Rattle.planner.proofs.rembasuk_bounds.Statement.{statement}
 use Rattle.planner.proofs.rembasuk_bounds.Tie as tie
@@ -13,27 +14,21 @@ use Rattle.model.proofs.answers.Refusal.code.Reads as code-reads
 use Rattle.planner.proofs.reading.bounds.Reads as bounds-reads
 use Rattle.text.proofs.read.Reads as read-reads
 
--- src/lib.rt:67:9
 read-requires : tie.Need-read-requires
 read-requires c κs = search needs
 
--- src/lib.rt:68:9
 bounds-requires : tie.Need-bounds-requires
 bounds-requires c κs = search needs
 
--- src/lib.rt:72:18
 code-requires : tie.Need-code-requires
 code-requires c κs = search needs
 
--- src/lib.rt:72:18
 cast-t8 : tie.Need-cast-t8
 cast-t8 c = search needs
 
--- src/lib.rt:77:19
 cast-t9 : tie.Need-cast-t9
 cast-t9 c = search needs
 
--- src/lib.rt:63:1
 returns : tie.Need-returns
 unfolding boundsForC
 returns c =

@@ -2,43 +2,37 @@ use mathlib.Core.Path.{ap, _∙_}
 use lib.ListN.{length}
 use Rattle.model.specs.declared.answers.Reading.{Reading}
 use Rattle.model.specs.Program.{slotState, slotBuffer}
-use Rattle.written_slot.specs.Slots.{slotAnswer}
-use Rattle.planner.specs.ForC.{slotForC, slotNumbers}
-use Rattle.planner.proofs.Answers.{slot-numbers}
+use Rattle.planner.specs.Slots.{slotAnswer}
+use Rattle.planner.specs.ForC.{slotForC}
+use Rattle.c_numbers.specs.Numbers.{slotNumbers}
+use Rattle.c_numbers.proofs.Answers.{slot-numbers}
 use borrow.Author.Needs.{needs}
 use Rattle.planner.proofs.rembasuk_slot.Statement.{statement}
 use Rattle.planner.proofs.rembasuk_slot.Tie as tie
 use Rattle.planner.proofs.rembasuk_slot.Reads as reads
 use Rattle.planner.proofs.rembasuk_slot.Lts as lts
 use Rattle.model.proofs.answers.Refusal.code.Reads as code-reads
-use Rattle.written_slot.proofs.slot.Reads as slot-reads
+use Rattle.planner.proofs.slots.slot.Reads as slot-reads
 use Rattle.text.proofs.read.Reads as read-reads
 
--- src/lib.rt:90:9
 read-requires : tie.Need-read-requires
 read-requires c κs = search needs
 
--- src/lib.rt:91:9
 slot-requires : tie.Need-slot-requires
 slot-requires c κs = search needs
 
--- src/lib.rt:95:18
 code-requires : tie.Need-code-requires
 code-requires c κs = search needs
 
--- src/lib.rt:95:18
 cast-t13 : tie.Need-cast-t13
 cast-t13 c = search needs
 
--- src/lib.rt:84:1
 same-length : tie.Need-same-length
 same-length c = search needs
 
--- src/lib.rt:84:1
 same-length-2 : tie.Need-same-length-2
 same-length-2 c = search needs
 
--- src/lib.rt:84:1
 returns : tie.Need-returns
 unfolding slotForC
 returns c =

@@ -1,6 +1,7 @@
 use mathlib.Core.Path.{sym, ap, _∙_}
-use Rattle.planner.specs.ForC.{verdictForC, verdictNumbers, verdictOfReading}
-use Rattle.planner.proofs.Answers.{verdict-numbers}
+use Rattle.planner.specs.ForC.{verdictForC, verdictOfReading}
+use Rattle.c_numbers.specs.Numbers.{verdictNumbers}
+use Rattle.c_numbers.proofs.Answers.{verdict-numbers}
 use borrow.Author.Needs.{needs}
 use Rattle.planner.proofs.rembasuk_verdict.Statement.{statement}
 use Rattle.planner.proofs.rembasuk_verdict.Tie as tie
@@ -11,31 +12,24 @@ use Rattle.planner.proofs.reading.bit.Reads as bit-reads
 use Rattle.planner.proofs.reading.verdict.Reads as verdict-reads
 use Rattle.text.proofs.read.Reads as read-reads
 
--- src/lib.rt:49:9
 read-requires : tie.Need-read-requires
 read-requires c κs = search needs
 
--- src/lib.rt:50:9
 verdict-requires : tie.Need-verdict-requires
 verdict-requires c κs = search needs
 
--- src/lib.rt:54:18
 code-requires : tie.Need-code-requires
 code-requires c κs = search needs
 
--- src/lib.rt:54:18
 cast-t7 : tie.Need-cast-t7
 cast-t7 c = search needs
 
--- src/lib.rt:56:16
 bit-requires : tie.Need-bit-requires
 bit-requires c κs = search needs
 
--- src/lib.rt:57:20
 bit-requires-2 : tie.Need-bit-requires-2
 bit-requires-2 c κs = search needs
 
--- src/lib.rt:45:1
 returns : tie.Need-returns
 unfolding verdictForC
 returns c =

@@ -4,7 +4,7 @@ use Prim.Native.Nat.{ℕ}
 use native.Mathlib.Omega.{arith}
 use lib.ListN.{take, drop}
 use lib.Seq.{drop-at, length-take-le}
-use Rattle.state_bytes.specs.Bytes.{slotBytes}
+use Rattle.slot_bytes.specs.Bytes.{slotBytes}
 use Rattle.model.specs.Program.{stateBytes}
 use borrow.Author.Needs.{needs}
 use Rattle.state_bytes.proofs.write_state.Statement.{statement}

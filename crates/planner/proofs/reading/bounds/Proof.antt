@@ -2,7 +2,7 @@ use mathlib.Core.Path.{sym, ap, _∙_}
 use Rattle.model.specs.Delay.{boundsOf}
 use Rattle.model.specs.Sets.{used}
 use Rattle.planner.specs.ForC.{boundsOfReading}
-use Rattle.printing.specs.Codes.{pick-good, pick-refused}
+use Rattle.refusals.specs.Codes.{pick-good, pick-refused}
 use Rattle.planner.proofs.Cut.{bounds-cut}
 use borrow.Author.Needs.{needs}
 use Rattle.planner.proofs.reading.bounds.Statement.{statement}
@@ -11,26 +11,21 @@ use Rattle.planner.proofs.reading.bounds.Reads as reads
 use Rattle.planner.proofs.reading.bounds.Lts as lts
 use Rattle.model.proofs.answers.Refusal.code.Reads as code-reads
 use Rattle.delay.proofs.bounds.Reads as bounds-reads
-use Rattle.planner.proofs.reading.flow_number.Reads as flow-number-reads
+use Rattle.c_numbers.proofs.flow_number.Reads as flow-number-reads
 use Rattle.planner.proofs.reading.refused_bounds.Reads as refused-bounds-reads
 
--- src/reading.rt:75:8
 code-requires : tie.Need-code-requires
 code-requires c κs = search needs
 
--- src/reading.rt:77:28
 flow-number-requires : tie.Need-flow-number-requires
 flow-number-requires c κs = search needs
 
--- src/reading.rt:77:9
 bounds-requires : tie.Need-bounds-requires
 bounds-requires c κs = search needs
 
--- src/reading.rt:79:9
 refused-bounds-requires : tie.Need-refused-bounds-requires
 refused-bounds-requires c κs = search needs
 
--- src/reading.rt:70:1
 returns : tie.Need-returns
 unfolding boundsOfReading
 returns c =
@@ -40,7 +35,6 @@ returns c =
     ∙ bounds-cut (a .reading .set) (a .flow)
     ∙ sym (pick-good _ _ _ (c .before .before .before .before .code .ensures) (c .before .before .before .if1 .taken))
 
--- src/reading.rt:70:1
 returns-2 : tie.Need-returns-2
 unfolding boundsOfReading
 returns-2 c = c .refused-bounds .ensures ∙ sym (pick-refused _ _ _ (c .before .before .code .ensures) (c .before .if1 .left))

@@ -1,6 +1,6 @@
 use mathlib.Core.Path.{sym, _∙_}
 use Rattle.planner.specs.ForC.{verdictOfReading}
-use Rattle.printing.specs.Codes.{pick-good, pick-refused}
+use Rattle.refusals.specs.Codes.{pick-good, pick-refused}
 use borrow.Author.Needs.{needs}
 use Rattle.planner.proofs.reading.verdict.Statement.{statement}
 use Rattle.planner.proofs.reading.verdict.Tie as tie
@@ -10,24 +10,19 @@ use Rattle.model.proofs.answers.Refusal.code.Reads as code-reads
 use Rattle.delay.proofs.verdict.Reads as verdict-reads
 use Rattle.planner.proofs.reading.refused_verdict.Reads as refused-verdict-reads
 
--- src/reading.rt:38:8
 code-requires : tie.Need-code-requires
 code-requires c κs = search needs
 
--- src/reading.rt:40:9
 verdict-requires : tie.Need-verdict-requires
 verdict-requires c κs = search needs
 
--- src/reading.rt:42:9
 refused-verdict-requires : tie.Need-refused-verdict-requires
 refused-verdict-requires c κs = search needs
 
--- src/reading.rt:33:1
 returns : tie.Need-returns
 unfolding verdictOfReading
 returns c = c .verdict .ensures ∙ sym (pick-good _ _ _ (c .before .before .before .code .ensures) (c .before .before .if1 .taken))
 
--- src/reading.rt:33:1
 returns-2 : tie.Need-returns-2
 unfolding verdictOfReading
 returns-2 c = c .refused-verdict .ensures ∙ sym (pick-refused _ _ _ (c .before .before .code .ensures) (c .before .if1 .left))

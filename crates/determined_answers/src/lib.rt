@@ -1,0 +1,135 @@
+// Each contract determines its function's result: called twice on the same inputs, a function gives the same answer, and memory that
+// was lent with the same contents ends with the same contents. That is proved from the contracts alone, since nothing else is seen
+// from here. Here: the lines that are printed, and what C is answered.
+ghost use mathlib.Core.Path.{_≡_};
+use model::Bounds;
+use model::ChannelMap;
+use model::Fault;
+use model::Refusal;
+use model::Send;
+use model::Stepped;
+use model::Verdict;
+use model::Written;
+
+pub struct TwoPlaces(pub usize, pub usize);
+
+pub struct TwoNumbers(pub u16, pub u16);
+
+pub struct TwoTests(pub bool, pub bool);
+
+pub struct TwoFaults(pub Fault, pub Fault);
+
+pub struct TwoWritten(pub Written, pub Written);
+
+pub fn put_refused(x: &mut [u8], y: &mut [u8], at: usize, fault: Fault) -> TwoPlaces
+    ensures { λ r. ⌜ ((now (x .entry) ≡ now (y .entry)) → ((r .0 ≡ r .1) × (now (x .exit) ≡ now (y .exit)))) ⌝ }
+{
+    let a = printing::put_refused(x, at, fault);
+    let b = printing::put_refused(y, at, fault);
+    TwoPlaces(a, b)
+}
+
+pub fn put_verdict(x: &mut [u8], y: &mut [u8], at: usize, v: Verdict) -> TwoPlaces
+    ensures { λ r. ⌜ ((now (x .entry) ≡ now (y .entry)) → ((r .0 ≡ r .1) × (now (x .exit) ≡ now (y .exit)))) ⌝ }
+{
+    let a = verdict_line::put_verdict(x, at, v);
+    let b = verdict_line::put_verdict(y, at, v);
+    TwoPlaces(a, b)
+}
+
+pub fn put_margin(x: &mut [u8], y: &mut [u8], at: usize, deadline: u32, bound: u32) -> TwoPlaces
+    ensures { λ r. ⌜ ((now (x .entry) ≡ now (y .entry)) → ((r .0 ≡ r .1) × (now (x .exit) ≡ now (y .exit)))) ⌝ }
+{
+    let a = margin_text::put_margin(x, at, deadline, bound);
+    let b = margin_text::put_margin(y, at, deadline, bound);
+    TwoPlaces(a, b)
+}
+
+pub fn put_bound(x: &mut [u8], y: &mut [u8], at: usize, k: u16, b: Bounds) -> TwoPlaces
+    ensures { λ r. ⌜ ((now (x .entry) ≡ now (y .entry)) → ((r .0 ≡ r .1) × (now (x .exit) ≡ now (y .exit)))) ⌝ }
+{
+    let a = bound_line::put_bound(x, at, k, b);
+    let b = bound_line::put_bound(y, at, k, b);
+    TwoPlaces(a, b)
+}
+
+pub fn put_sends(
+    x: &mut [u8],
+    y: &mut [u8],
+    at: usize,
+    sent: [Send; ChannelMap::MOST],
+    n: u16,
+) -> TwoPlaces
+    ensures { λ r. ⌜ ((now (x .entry) ≡ now (y .entry)) → ((r .0 ≡ r .1) × (now (x .exit) ≡ now (y .exit)))) ⌝ }
+{
+    let a = printing::put_sends(x, at, sent, n);
+    let b = printing::put_sends(y, at, sent, n);
+    TwoPlaces(a, b)
+}
+
+pub fn put_long(x: &mut [u8], y: &mut [u8]) -> TwoPlaces
+    ensures { λ r. ⌜ ((now (x .entry) ≡ now (y .entry)) → ((r .0 ≡ r .1) × (now (x .exit) ≡ now (y .exit)))) ⌝ }
+{
+    let a = input_limit::put_long(x);
+    let b = input_limit::put_long(y);
+    TwoPlaces(a, b)
+}
+
+pub fn is_long(n: usize) -> TwoTests
+    ensures { λ r. ⌜ r .0 ≡ r .1 ⌝ }
+{
+    let a = input_limit::is_long(n);
+    let b = input_limit::is_long(n);
+    TwoTests(a, b)
+}
+
+pub fn lines_length(sent: [Send; ChannelMap::MOST], n: u16) -> TwoPlaces
+    ensures { λ r. ⌜ r .0 ≡ r .1 ⌝ }
+{
+    let a = sends_length::lines_length(sent, n);
+    let b = sends_length::lines_length(sent, n);
+    TwoPlaces(a, b)
+}
+
+pub fn flow_number(flow: u32, count: u16) -> TwoNumbers
+    ensures { λ r. ⌜ r .0 ≡ r .1 ⌝ }
+{
+    let a = c_numbers::flow_number(flow, count);
+    let b = c_numbers::flow_number(flow, count);
+    TwoNumbers(a, b)
+}
+
+pub fn refused(fault: Fault) -> TwoWritten
+    ensures { λ r. ⌜ r .0 ≡ r .1 ⌝ }
+{
+    let a = refusals::refused(fault);
+    let b = refusals::refused(fault);
+    TwoWritten(a, b)
+}
+
+pub fn refused_by(refusal: Refusal) -> TwoWritten
+    ensures { λ r. ⌜ r .0 ≡ r .1 ⌝ }
+{
+    let a = refusals::refused_by(refusal);
+    let b = refusals::refused_by(refusal);
+    TwoWritten(a, b)
+}
+
+pub fn early(fault: Fault, n: usize) -> TwoFaults
+    ensures { λ r. ⌜ r .0 ≡ r .1 ⌝ }
+{
+    let a = refusals::early(fault, n);
+    let b = refusals::early(fault, n);
+    TwoFaults(a, b)
+}
+
+pub fn write_step(s: &mut [u8], u: &mut [u8], x: &mut [u8], y: &mut [u8], a: Stepped) -> TwoWritten
+    ensures { λ r. ⌜
+        (((now (s .entry) ≡ now (u .entry)) × (now (x .entry) ≡ now (y .entry)))
+        → ((r .0 ≡ r .1) × (now (s .exit) ≡ now (u .exit)) × (now (x .exit) ≡ now (y .exit))))
+        ⌝ }
+{
+    let first = written_step::write_step(s, x, a);
+    let second = written_step::write_step(u, y, a);
+    TwoWritten(first, second)
+}

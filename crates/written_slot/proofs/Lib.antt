@@ -1,2 +1,0 @@
-mod Stepping
-mod Slotting
