@@ -10,8 +10,10 @@ fn wide(n: u16) -> u32
     n as u32
 }
 
+pub type Numbers = [u32; 4 + Flow::MOST_NODES];
+
 // A flow's numbers in the order of its line, all the nodes of its array among them.
-pub fn flow_numbers(f: Flow) -> [u32; 4 + Flow::MOST_NODES]
+pub fn flow_numbers(f: Flow) -> Numbers
     ensures { λ r. ⌜ r ≡ flowNumbers f ⌝ }
 {
     let route = f.route;

@@ -2,8 +2,10 @@
 ghost use mathlib.Core.Path.{_≡_};
 ghost use Rattle.slot_bytes.specs.Bytes.{slotBytes};
 
+pub type SlotBytes = [u8; 4];
+
 // A slot in four bytes, lowest first.
-pub fn slot_bytes(t: u32) -> [u8; 4]
+pub fn slot_bytes(t: u32) -> SlotBytes
     ensures { λ r. ⌜ r ≡ slotBytes t ⌝ }
 {
     let lowest = (t % 256) as u8;

@@ -5,6 +5,9 @@ ghost use Rattle.tables.specs.Sums.{tableValue, Fits};
 ghost use Rattle.tables.specs.Steps.{ValuesTo};
 use model::Flow;
 
+// A number for each flow.
+pub type Values = [u32; Flow::MOST];
+
 // The equation's value for every flow.
 pub fn values<'a>(
     n: usize,
@@ -16,7 +19,7 @@ pub fn values<'a>(
     whole_conflict: &'a [u32; Flow::MOST],
     whole_work: &'a [u32; Flow::MOST],
     gone: &[u16; Flow::MOST],
-) -> [u32; Flow::MOST]
+) -> Values
     requires { ⌜ (n ≤ 64) × (0 < m) ⌝ }
     requires { ⌜ Fits (tablesOf (now conflict) (now remainder) (now work) (now deadline) (now «whole_conflict») (now «whole_work»)) n ⌝ }
     ensures { λ r. ⌜ ValuesTo (tableValue (tablesOf (now (conflict .entry)) (now (remainder .entry)) (now (work .entry)) (now (deadline .entry)) (now («whole_conflict» .entry)) (now («whole_work» .entry))) m (now (gone .entry))) n r ⌝ }
