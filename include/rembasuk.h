@@ -1,6 +1,6 @@
 /* Rembasuk: admission and slot schedule of wireless flows, earliest deadline first.
  *
- * Every function here is proved to do what the definitions in crates/model/specs say, for every input: no call can fail
+ * Every function here is proved to do what the definitions in crates/model/specs and crates/document/specs say, for every input: no call can fail
  * otherwise than by one of the refusal numbers below, and every call ends.
  *
  * A set of flows is handed over as text: lines ended by LF, fields parted by one tab.

@@ -15,7 +15,7 @@ use Rattle.model.specs.Sums.{bit}
 use Rattle.laws.specs.Sums.{sum-le, sum-term, bit-le, and-l, and-r, and-i, or-case, or-l, or-r}
 use Rattle.argument.specs.Waiting.{ahead, inway, Paid, wait-paid}
 use Rattle.model.specs.Sets.{anyOf, memb}
-use Rattle.model.specs.Machine.{insert, ordered, place}
+use Rattle.document.specs.Machine.{insert, ordered, place}
 use Rattle.argument.specs.Members.{memb-none, memb-head, memb-tail, memb-case, memb-snoc, none-of, some-of, Pairs, pairs-map, pairs-snoc, pairs-at, length-le}
 
 -- an order of priority of the flows 0 .. n − 1: of two different flows one is taken first

@@ -4,8 +4,8 @@ use mathlib.Core.List.{List, [], _∷_, _++_, append-assoc}
 use Prim.Native.Nat.{ℕ}
 use lib.IntN.{pos, _-ℤ_}
 use Rattle.model.specs.declared.answers.Bounds.{Bounds}
-use Rattle.model.specs.Text.{decimal, decimals, tabbed}
-use Rattle.model.specs.Program.{boundWord, boundLine, signed}
+use Rattle.document.specs.Text.{decimal, decimals, tabbed}
+use Rattle.document.specs.Program.{boundWord, boundLine, signed}
 use Rattle.puts.specs.Stores.{fieldsOf}
 use Rattle.margin_text.specs.Margins.{marginText, signed-margin}
 

@@ -7,8 +7,8 @@ use Rattle.model.specs.declared.kinds.FlowSet.{FlowSet}
 use Rattle.model.specs.declared.answers.Fault.{Fault}
 use Rattle.model.specs.declared.answers.Refusal.the-variants.{NoSuchFlow}
 use Rattle.model.specs.Refusals.{good, faultAt, noFault}
-use Rattle.model.specs.Reader.{recordFault}
-use Rattle.model.specs.Delay.{verdictIf, verdictOf, boundsFault, boundsIf, boundsOf}
+use Rattle.document.specs.Reader.{recordFault}
+use Rattle.document.specs.Delay.{verdictIf, verdictOf, boundsFault, boundsIf, boundsOf}
 use Rattle.bounds.specs.Answers.{refusedBounds}
 
 -- the two answers of a verdict

@@ -16,8 +16,8 @@ use Rattle.model.specs.declared.answers.Bounds.{Bounds}
 use Rattle.model.specs.Sums.{allTo}
 use Rattle.model.specs.Refusals.{refusalNumber, good, noFault}
 use Rattle.model.specs.Sets.{flowAt}
-use Rattle.model.specs.Reader.{recordFault}
-use Rattle.model.specs.Delay.{deadline, workAt, basicBound, tightBound, admits, verdictIf, verdictOf, boundsIf, boundsOf}
+use Rattle.document.specs.Reader.{recordFault}
+use Rattle.document.specs.Delay.{deadline, workAt, basicBound, tightBound, admits, verdictIf, verdictOf, boundsIf, boundsOf}
 use Rattle.grid.proofs.Checked.{number-zero, number-other}
 use Rattle.bounds.specs.declared.AllBounds.{AllBounds}
 use Rattle.bounds.specs.Answers.{AllBoundsOf}

@@ -8,7 +8,7 @@ use Rattle.model.specs.declared.kinds.FlowSet.{FlowSet}
 use Rattle.model.specs.declared.answers.Fault.{Fault}
 use Rattle.model.specs.declared.answers.Bounds.{Bounds}
 use Rattle.model.specs.Limits.{mostFlows}
-use Rattle.model.specs.Delay.{verdictOf, boundsOf}
+use Rattle.document.specs.Delay.{verdictOf, boundsOf}
 use Rattle.bounds.specs.declared.AllBounds.{AllBounds}
 
 -- a refused bound is zeros throughout

@@ -1,7 +1,7 @@
 // Rule 5's radio channel.
 ghost use mathlib.Core.Path.{_≡_};
 ghost use lib.ListN.{getD};
-ghost use Rattle.model.specs.Machine.{channels, radioChannel};
+ghost use Rattle.document.specs.Machine.{channels, radioChannel};
 use model::ChannelMap;
 use model::Slot;
 

@@ -8,7 +8,7 @@ use native.Mathlib.Omega.{arith}
 use lib.Dec.{ltb}
 use lib.ListN.{length, length-append}
 use borrow.Author.Tests.{lt-ltb, le-ltb, ltb-true, ltb-false}
-use Rattle.model.specs.Text.{decimalIn, decimal}
+use Rattle.document.specs.Text.{decimalIn, decimal}
 
 -- the numbers of at most ten digits
 abbrev pub tenDigits : ℕ

@@ -7,7 +7,7 @@ use native.Mathlib.Nat.{le-refl}
 use native.Mathlib.Numerals.{add-one}
 use lib.ListN.{length, getD, take, set, length-set}
 use lib.Seq.{sets, set-out, set-comm, take-suc}
-use Rattle.model.specs.Text.{decimal}
+use Rattle.document.specs.Text.{decimal}
 use Rattle.decimals.specs.Decimals.{tenDigits, decimal-one, decimal-more, decimal-size}
 
 pub sets-append : (a b l : List ℕ) (i : ℕ) → sets l i (a ++ b) ≡ sets (sets l i a) (i + length a) b

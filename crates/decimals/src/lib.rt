@@ -3,7 +3,7 @@ ghost use mathlib.Core.Path.{_≡_};
 ghost use Prim.Native.Nat.{_≤_};
 ghost use lib.ListN.{length, set};
 ghost use lib.Seq.{sets};
-ghost use Rattle.model.specs.Text.{decimal};
+ghost use Rattle.document.specs.Text.{decimal};
 
 // One byte at a place, where the buffer has it.
 pub fn put_at(out: &mut [u8], at: usize, b: u8)

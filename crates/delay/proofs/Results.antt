@@ -13,8 +13,8 @@ use Rattle.model.specs.declared.answers.Verdict.{Verdict}
 use Rattle.model.specs.declared.answers.Bounds.{Bounds}
 use Rattle.model.specs.Limits.{mostFlows}
 use Rattle.model.specs.Refusals.{good, noFault}
-use Rattle.model.specs.Reader.{recordFault}
-use Rattle.model.specs.Delay.{ways, basicBound, reached, tightBound, boundsOf, deadlines}
+use Rattle.document.specs.Reader.{recordFault}
+use Rattle.document.specs.Delay.{ways, basicBound, reached, tightBound, boundsOf, deadlines}
 use Rattle.greatest.specs.Values.{list-entry, value-at-deadlines, deadlines-entry}
 use Rattle.grid.proofs.Fill.{zeros}
 use Rattle.tables.specs.Tables.{Tables, Tabled}

@@ -2,13 +2,13 @@
 ghost use mathlib.Core.Path.{_≡_};
 ghost use mathlib.Core.Bool.{true};
 ghost use Rattle.model.specs.Refusals.{good, noFault};
-ghost use Rattle.model.specs.Reader.{recordFault};
+ghost use Rattle.document.specs.Reader.{recordFault};
 ghost use Rattle.model.specs.Sets.{used};
 ghost use Rattle.laws.specs.Accepted.{Accepted};
 ghost use Rattle.tables.specs.Tables.{tablesOf, Tabled};
 ghost use Rattle.bounds.specs.Answers.{AllBoundsOf};
 ghost use Rattle.tables.specs.Steps.{JudgedAs};
-ghost use Rattle.model.specs.Delay.{verdictOf, boundsOf};
+ghost use Rattle.document.specs.Delay.{verdictOf, boundsOf};
 use bounds::AllBounds;
 use model::Bounds;
 use model::Fault;

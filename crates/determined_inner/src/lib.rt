@@ -6,7 +6,7 @@ ghost use mathlib.Core.List.{[]};
 ghost use Prim.Native.Nat.{ℕ, _/_, _≤_, _<_};
 ghost use lib.ListN.{getD};
 ghost use Rattle.model.specs.Refusals.{good};
-ghost use Rattle.model.specs.Reader.{recordFault};
+ghost use Rattle.document.specs.Reader.{recordFault};
 ghost use Rattle.model.specs.Sets.{used};
 ghost use Rattle.machinery.specs.Answers.{Delayed};
 use ends::Ends;

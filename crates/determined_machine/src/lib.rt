@@ -2,7 +2,7 @@
 // was lent with the same contents ends with the same contents. That is proved from the contracts alone, since nothing else is seen
 // from here. Here: the slot machine, and the lines of its run.
 ghost use mathlib.Core.Path.{_≡_};
-ghost use Rattle.model.specs.Reader.{recordFault};
+ghost use Rattle.document.specs.Reader.{recordFault};
 ghost use Rattle.model.specs.Refusals.{noFault};
 ghost use Rattle.model.specs.Sets.{used};
 use model::ChannelMap;

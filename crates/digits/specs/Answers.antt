@@ -4,7 +4,7 @@ use mathlib.Core.List.{List}
 use Prim.Native.Nat.{ℕ, _+_, _-_}
 use lib.Dec.{leb, eqb}
 use lib.ListN.{length}
-use Rattle.model.specs.Text.{valueOf, isNumber}
+use Rattle.document.specs.Text.{valueOf, isNumber}
 use Rattle.digits.specs.declared.NumberRead.{NumberRead}
 use Rattle.digits.specs.declared.NumberRead.the-variants.{Value, Refused}
 

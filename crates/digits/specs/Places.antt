@@ -3,7 +3,7 @@ use mathlib.Core.Bool.{Bool, true, false, _||_, cond}
 use mathlib.Core.List.{List, [], _∷_}
 use Prim.Native.Nat.{ℕ, _-_}
 use lib.Dec.{leb, ltb, eqb}
-use Rattle.model.specs.Text.{tab, lf, zeroDigit, fields, firstOf, othersOf}
+use Rattle.document.specs.Text.{tab, lf, zeroDigit, fields, firstOf, othersOf}
 
 -- the field that stands there
 abbrev pub first : List ℕ → List ℕ

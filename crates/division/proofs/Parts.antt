@@ -8,7 +8,7 @@ use lib.ListN.{length, getD, set, replicate, length-set}
 use lib.Seq.{getD-set-same, getD-set-other}
 use Rattle.model.specs.declared.kinds.FlowSet.{FlowSet}
 use Rattle.model.specs.Limits.{mostFlows}
-use Rattle.model.specs.Delay.{period, deadline, workAt}
+use Rattle.document.specs.Delay.{period, deadline, workAt}
 use Rattle.grid.proofs.Fill.{row-start, row-next, filled-start, filled-next}
 use Rattle.division.specs.Divided.{NumbersTo, Divided}
 

@@ -5,7 +5,7 @@ use Prim.Native.Nat.{ℕ, _/_, _%_, _≤_, _<_}
 use lib.ListN.{length, getD}
 use Rattle.model.specs.declared.kinds.FlowSet.{FlowSet}
 use Rattle.model.specs.Limits.{mostFlows}
-use Rattle.model.specs.Delay.{period, deadline, workAt}
+use Rattle.document.specs.Delay.{period, deadline, workAt}
 use Rattle.grid.specs.Grid.{RowDone, FilledTo}
 
 -- T, D and C of the first k flows

@@ -4,7 +4,7 @@ use lib.Dec.{eqb}
 use lib.ListN.{getD}
 use Rattle.model.specs.declared.answers.Refusal.{Refusal}
 use Rattle.model.specs.declared.answers.Refusal.the-variants.{BadForm}
-use Rattle.model.specs.Reader.{mapFault}
+use Rattle.document.specs.Reader.{mapFault}
 use Rattle.lines.specs.declared.reading.Row.{Row}
 
 -- the first line's refusal

@@ -16,9 +16,9 @@ use Rattle.model.specs.declared.answers.Refusal.{Refusal}
 use Rattle.model.specs.declared.answers.Refusal.the-variants.{BadForm}
 use Rattle.model.specs.Limits.{mostFlows, mostNodes}
 use Rattle.model.specs.Refusals.{refusalNumber, good}
-use Rattle.model.specs.Reader.{flowFault, pad, flowOf, withFlow, flowLineFault, refusedReading, accepted, readFlows}
+use Rattle.document.specs.Reader.{flowFault, pad, flowOf, withFlow, flowLineFault, refusedReading, accepted, readFlows}
 use Rattle.model.specs.Sets.{blankSet}
-use Rattle.model.specs.Text.{flowWord, lines, wellFormed, numbersOf}
+use Rattle.document.specs.Text.{flowWord, lines, wellFormed, numbersOf}
 use Rattle.laws.specs.Accepted.{GoodFlow, good-flow}
 use Rattle.laws.specs.Sums.{and-l, and-r}
 use Rattle.lines.specs.declared.reading.Row.{Row}

@@ -2,8 +2,8 @@
 ghost use mathlib.Core.Path.{_≡_};
 ghost use Prim.Native.Nat.{_≤_};
 ghost use lib.ListN.{drop};
-ghost use Rattle.model.specs.Reader.{readFlows};
-ghost use Rattle.model.specs.Text.{flowWord, lines};
+ghost use Rattle.document.specs.Reader.{readFlows};
+ghost use Rattle.document.specs.Text.{flowWord, lines};
 ghost use Rattle.lines.specs.Answers.{rowIn};
 ghost use Rattle.flow_lines.specs.Judged.{answerOf, flowOfRow, setWith};
 use lines::Row;

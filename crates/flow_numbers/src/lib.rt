@@ -1,6 +1,6 @@
 // The numbers of a flow's line.
 ghost use mathlib.Core.Path.{_≡_};
-ghost use Rattle.model.specs.Reader.{flowNumbers};
+ghost use Rattle.document.specs.Reader.{flowNumbers};
 use model::Flow;
 
 // A 16-bit number as a wider one.

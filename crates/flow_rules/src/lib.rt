@@ -1,7 +1,7 @@
 // Rules 2 to 9 of document 01, in their order, of the numbers that a line holds.
 ghost use mathlib.Core.Path.{_≡_};
 ghost use lib.ListN.{take};
-ghost use Rattle.model.specs.Reader.{mapFault, flowFault};
+ghost use Rattle.document.specs.Reader.{mapFault, flowFault};
 use model::Flow;
 use model::Refusal;
 use tries_rules::tries_fault;

@@ -14,7 +14,7 @@ use lib.IntN.{ℤ, pos, negsuc, _-ℤ_}
 use lib.ListN.{length, getD, List·getD-eq-default}
 use lib.Seq.{ext-getD}
 use Rattle.model.specs.declared.kinds.FlowSet.{FlowSet}
-use Rattle.model.specs.Delay.{deadline, workAt, basicBound, valueAt, Settled, Greatest, deadlines, lowered, roundTo, roundOf, reached, tightBound}
+use Rattle.document.specs.Delay.{deadline, workAt, basicBound, valueAt, Settled, Greatest, deadlines, lowered, roundTo, roundOf, reached, tightBound}
 use Rattle.laws.specs.Accepted.{Accepted}
 use Rattle.greatest.specs.Values.{value-le-basic, deadlines-entry}
 use Rattle.greatest.specs.Rounds.{Le, value-mono, lowered-entry, lowered-other, round-le-value, Between, between-deadlines, between-lowered, WorkFits, accepted-fits, reached-between, reached-idle, Ends, idle, more, reached-ends}

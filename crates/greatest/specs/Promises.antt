@@ -14,8 +14,8 @@ use Rattle.model.specs.declared.answers.Verdict.{Verdict}
 use Rattle.model.specs.Sums.{sumTo, allTo}
 use Rattle.model.specs.Refusals.{good}
 use Rattle.model.specs.Sets.{flowAt}
-use Rattle.model.specs.Reader.{recordFault}
-use Rattle.model.specs.Delay.{ways, period, deadline, workAt, wholePackets, share, wholeShare, conflictShare, overOthers, joined, boundWith, basicBound, valueAt, Greatest, deadlines, mostRounds, reached, tightBound, admits, verdictIf, verdictOf, boundsIf, boundsFault, boundsOf}
+use Rattle.document.specs.Reader.{recordFault}
+use Rattle.document.specs.Delay.{ways, period, deadline, workAt, wholePackets, share, wholeShare, conflictShare, overOthers, joined, boundWith, basicBound, valueAt, Greatest, deadlines, mostRounds, reached, tightBound, admits, verdictIf, verdictOf, boundsIf, boundsFault, boundsOf}
 use Rattle.laws.specs.Sums.{sum-le, sum-const, and-l, and-r, and-i}
 use Rattle.laws.specs.Accepted.{Accepted, accepted}
 use Rattle.greatest.specs.Values.{sums-le, others-le}

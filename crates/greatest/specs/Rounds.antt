@@ -14,8 +14,8 @@ use lib.ListN.{length, getD, set, length-set, List·getD-eq-default}
 use lib.Seq.{getD-set-same, getD-set-other, set-out, set-getD, ext-getD}
 use Rattle.model.specs.declared.kinds.FlowSet.{FlowSet}
 use Rattle.model.specs.Sums.{sumTo}
-use Rattle.model.specs.Text.{same}
-use Rattle.model.specs.Delay.{deadline, workAt, valueAt, deadlines, lowered, roundTo, roundOf, Reached, roundsIn, mostRounds, reached}
+use Rattle.document.specs.Text.{same}
+use Rattle.document.specs.Delay.{deadline, workAt, valueAt, deadlines, lowered, roundTo, roundOf, Reached, roundsIn, mostRounds, reached}
 use Rattle.laws.specs.Sums.{sum-le, sum-ext, sum-lt, and-l, and-r}
 use Rattle.laws.specs.Accepted.{Accepted}
 use Rattle.greatest.specs.Values.{value-le, value-ge-work, deadlines-length, deadlines-entry}

@@ -13,8 +13,8 @@ use lib.Seq.{getD-at}
 use Rattle.model.specs.declared.kinds.Flow.{Flow}
 use Rattle.model.specs.declared.kinds.FlowSet.{FlowSet}
 use Rattle.model.specs.Sums.{bit, sumTo}
-use Rattle.model.specs.Sets.{flowAt, listTo}
-use Rattle.model.specs.Delay.{ways, deadline, links, work, workAt, touches, conflictWork, share, wholeShare, conflictShare, overOthers, joined, boundWith, remainder, basicBound, tightened, valueAt, deadlines}
+use Rattle.model.specs.Sets.{flowAt, listTo, links, work}
+use Rattle.document.specs.Delay.{ways, deadline, workAt, touches, conflictWork, share, wholeShare, conflictShare, overOthers, joined, boundWith, remainder, basicBound, tightened, valueAt, deadlines}
 use Rattle.laws.specs.Sums.{sum-le, sum-ext, sum-add, bits-le}
 
 -- S is at most C

@@ -13,8 +13,7 @@ use Rattle.model.specs.declared.kinds.FlowSet.{FlowSet}
 use Rattle.model.specs.declared.answers.Fault.{Fault}
 use Rattle.model.specs.Limits.{mostFlows}
 use Rattle.model.specs.Refusals.{refusalNumber, good}
-use Rattle.model.specs.Sets.{flowAt, exact, used}
-use Rattle.model.specs.Delay.{links, work}
+use Rattle.model.specs.Sets.{flowAt, exact, used, links, work}
 use Rattle.laws.specs.Accepted.{Accepted, GoodFlow}
 use Rattle.laws.specs.Used.{used-flow, used-count}
 

@@ -13,7 +13,7 @@ use lib.Seq.{ext-getD}
 use Rattle.model.specs.declared.kinds.FlowSet.{FlowSet}
 use Rattle.model.specs.Limits.{mostFlows}
 use Rattle.model.specs.Sets.{flowAt}
-use Rattle.model.specs.Delay.{conflictWork}
+use Rattle.document.specs.Delay.{conflictWork}
 
 -- row k, column l
 abbrev pub pairAt : List ℕ → ℕ → ℕ → ℕ

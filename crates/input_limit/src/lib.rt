@@ -2,7 +2,7 @@
 ghost use mathlib.Core.Path.{_≡_};
 ghost use lib.Dec.{ltb};
 ghost use Rattle.model.specs.Refusals.{faultAt};
-ghost use Rattle.model.specs.Program.{refusedLine};
+ghost use Rattle.document.specs.Program.{refusedLine};
 ghost use Rattle.model.specs.declared.answers.Refusal.the-variants.{NoRoom};
 ghost use Rattle.puts.specs.Stores.{Put};
 use model::Fault;

@@ -16,9 +16,8 @@ use Rattle.model.specs.declared.answers.Refusal.{Refusal}
 use Rattle.model.specs.declared.answers.Refusal.the-variants.{Nothing, TooManyFlows, BadPeriod, BadDeadline, BadTries, BadRoute, NodeTwice, TooMuchWork}
 use Rattle.model.specs.Limits.{mostFlows, mostNodes}
 use Rattle.model.specs.Refusals.{good, faultAt, orElse}
-use Rattle.model.specs.Sets.{flowAt}
-use Rattle.model.specs.Reader.{twice, flowFault, flowsFault, recordFault, recordFlowFault, mapFault}
-use Rattle.model.specs.Delay.{work}
+use Rattle.model.specs.Sets.{flowAt, work}
+use Rattle.document.specs.Reader.{twice, flowFault, flowsFault, recordFault, recordFlowFault, mapFault}
 
 -- rules 4 to 9 of one flow
 pub record GoodFlow (f : Flow) : Type 0 where

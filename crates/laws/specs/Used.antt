@@ -10,9 +10,9 @@ use Rattle.model.specs.declared.kinds.Flow.{Flow}
 use Rattle.model.specs.declared.kinds.FlowSet.{FlowSet}
 use Rattle.model.specs.declared.kinds.State.{State}
 use Rattle.model.specs.Sets.{noFlow, flowAt, exact, used, SameSet}
-use Rattle.model.specs.Reader.{recordFault, textOf, writeAnswer, writeInto}
-use Rattle.model.specs.Delay.{verdictOf, boundsOf}
-use Rattle.model.specs.Machine.{stepOf, runOf}
+use Rattle.document.specs.Reader.{recordFault, textOf, writeAnswer, writeInto}
+use Rattle.document.specs.Delay.{verdictOf, boundsOf}
+use Rattle.document.specs.Machine.{stepOf, runOf}
 
 pub used-map : (s : FlowSet) → used s .map ≡ s .map
 unfolding used

@@ -4,8 +4,8 @@ use mathlib.Core.List.{List}
 use Prim.Native.Nat.{ℕ, _+_}
 use lib.ListN.{length, replicate}
 use Rattle.model.specs.Limits.{mostNodes}
-use Rattle.model.specs.Reader.{pad}
-use Rattle.model.specs.Text.{wellFormed, numbersOf}
+use Rattle.document.specs.Reader.{pad}
+use Rattle.document.specs.Text.{wellFormed, numbersOf}
 use Rattle.digits.specs.Places.{line}
 use Rattle.lines.specs.declared.reading.Row.{Row}
 

@@ -12,8 +12,8 @@ use lib.ListN.{length, getD, take, drop, set, replicate, drop-of-length-le, List
 use lib.Seq.{drop-cons, drop-drop, drop-nil, sets, set-out}
 use borrow.Author.Tests.{eqb-true, eq-eqb, ne-eqb}
 use Rattle.laws.specs.Sums.{and-l, and-r}
-use Rattle.model.specs.Reader.{pad}
-use Rattle.model.specs.Text.{same, ended, fields, valueOf, isNumber, allNumbers, valuesOf, wellFormed, numbersOf}
+use Rattle.document.specs.Reader.{pad}
+use Rattle.document.specs.Text.{same, ended, fields, valueOf, isNumber, allNumbers, valuesOf, wellFormed, numbersOf}
 use Rattle.digits.specs.declared.NumberRead.the-variants.{Value, Refused}
 use Rattle.lines.specs.declared.reading.Row.{Row}
 use Rattle.digits.specs.Places.{first, more, line, after}

@@ -6,7 +6,7 @@ use Rattle.model.specs.declared.kinds.FlowSet.{FlowSet}
 use Rattle.model.specs.declared.answers.Ran.{Ran}
 use Rattle.model.specs.Limits.{mostChannels, lastSlot}
 use Rattle.model.specs.Sets.{used}
-use Rattle.model.specs.Machine.{runOf}
+use Rattle.document.specs.Machine.{runOf}
 use Rattle.machinery.specs.States.{run-cut}
 use Rattle.promise.specs.Demand.{Admitted, admitted-good, run-keeps}
 

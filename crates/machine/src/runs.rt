@@ -1,7 +1,7 @@
 // A run of the machine from the fresh state.
 ghost use mathlib.Core.Path.{_≡_};
 ghost use Rattle.model.specs.Sets.{used};
-ghost use Rattle.model.specs.Machine.{runOf};
+ghost use Rattle.document.specs.Machine.{runOf};
 ghost use Rattle.promise.specs.Demand.{Admitted};
 use model::FlowSet;
 use model::Ran;

@@ -1,7 +1,7 @@
 // One step of the machine.
 ghost use mathlib.Core.Path.{_≡_};
 ghost use Rattle.model.specs.Sets.{used};
-ghost use Rattle.model.specs.Machine.{stepOf};
+ghost use Rattle.document.specs.Machine.{stepOf};
 use model::FlowSet;
 use model::State;
 use model::Stepped;

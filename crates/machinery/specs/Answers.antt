@@ -19,9 +19,9 @@ use Rattle.model.specs.declared.answers.Send.{Send}
 use Rattle.model.specs.declared.answers.Delivery.{Delivery}
 use Rattle.model.specs.Limits.{mostFlows}
 use Rattle.model.specs.Sums.{bit}
-use Rattle.model.specs.Sets.{flowAt, anyOf, memb, listTo, filterTo}
-use Rattle.model.specs.Delay.{work, workAt}
-use Rattle.model.specs.Machine.{releaseAt, deadlineAt, had, ready, linkOf, tryOf, countAt, hadAt, readyAt, dueAt, linkAt, ordered, ahead, place, placedAt, radioChannel, sendOf, sendsFrom, sendsAt, countAfter, deliveredAt, deliveriesOf, droppedAt, nextState, filled, noSend, noDelivery}
+use Rattle.model.specs.Sets.{flowAt, anyOf, memb, listTo, filterTo, work}
+use Rattle.document.specs.Delay.{workAt}
+use Rattle.document.specs.Machine.{releaseAt, deadlineAt, had, ready, linkOf, tryOf, countAt, hadAt, readyAt, dueAt, linkAt, ordered, ahead, place, placedAt, radioChannel, sendOf, sendsFrom, sendsAt, countAfter, deliveredAt, deliveriesOf, droppedAt, nextState, filled, noSend, noDelivery}
 use Rattle.laws.specs.Sums.{and-l, and-r}
 use Rattle.machinery.specs.Lists.{Through, length-listTo, is-listTo, filled-put, filter-hit}
 use Rattle.machinery.specs.Dues.{Tables, Seen, next-is, ready-if}

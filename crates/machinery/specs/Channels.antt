@@ -15,7 +15,7 @@ use lib.Pow.{mod-pow-add, pow-pos, shr-shr}
 use lib.ListN.{length, getD, length-append, List·getD-append, List·getD-eq-default}
 use lib.Seq.{getD-append-seam}
 use Rattle.model.specs.Limits.{firstChannel, mostChannels}
-use Rattle.model.specs.Machine.{channelsTo, channels, radioChannel}
+use Rattle.document.specs.Machine.{channelsTo, channels, radioChannel}
 
 -- bit i of a map
 abbrev pub bitAt : ℕ → ℕ → ℕ

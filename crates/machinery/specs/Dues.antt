@@ -15,11 +15,11 @@ use Rattle.model.specs.declared.kinds.FlowSet.{FlowSet}
 use Rattle.model.specs.declared.kinds.State.{State}
 use Rattle.model.specs.Limits.{mostFlows}
 use Rattle.model.specs.Refusals.{good}
-use Rattle.model.specs.Reader.{recordFault}
+use Rattle.document.specs.Reader.{recordFault}
 use Rattle.model.specs.Sums.{bit}
-use Rattle.model.specs.Sets.{noFlow, flowAt, exact, used}
-use Rattle.model.specs.Delay.{work, workAt}
-use Rattle.model.specs.Machine.{released, packetAt, releaseAt, deadlineAt, had, ready, nextCount, countAt, hadAt, readyAt, dueAt, ahead}
+use Rattle.model.specs.Sets.{noFlow, flowAt, exact, used, work}
+use Rattle.document.specs.Delay.{workAt}
+use Rattle.document.specs.Machine.{released, packetAt, releaseAt, deadlineAt, had, ready, nextCount, countAt, hadAt, readyAt, dueAt, ahead}
 use Rattle.laws.specs.Sums.{and-l, and-r}
 use Rattle.laws.specs.Accepted.{GoodFlow, Accepted, accepted}
 use Rattle.laws.specs.Used.{used-flow, used-count}

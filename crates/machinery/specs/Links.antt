@@ -13,11 +13,11 @@ use lib.Seq.{getD-set-same, getD-set-other}
 use Rattle.model.specs.declared.kinds.Flow.{Flow}
 use Rattle.model.specs.declared.kinds.FlowSet.{FlowSet}
 use Rattle.model.specs.Refusals.{good}
-use Rattle.model.specs.Reader.{recordFault}
+use Rattle.document.specs.Reader.{recordFault}
 use Rattle.model.specs.Sums.{bit, anyTo}
-use Rattle.model.specs.Sets.{noFlow, exact, flowAt, used, anyOf, memb, meet}
-use Rattle.model.specs.Delay.{work, workAt}
-use Rattle.model.specs.Machine.{linkOf}
+use Rattle.model.specs.Sets.{noFlow, exact, flowAt, used, anyOf, memb, meet, work}
+use Rattle.document.specs.Delay.{workAt}
+use Rattle.document.specs.Machine.{linkOf}
 use Rattle.laws.specs.Used.{used-flow}
 use Rattle.machinery.specs.Dues.{used-none, accepted-flow}
 use Rattle.machinery.specs.Choice.{linkBy, clashEnds, link-ends}

@@ -11,7 +11,7 @@ use borrow.Author.Tests.{eqb-true, eq-eqb, ne-eqb, lt-ltb, le-ltb}
 use lib.Dec.{eqb, ltb}
 use lib.ListN.{length, getD, take, drop, set, replicate, length-append, length-set, length-take, length-replicate, List·getD-eq-default, List·getD-append, drop-of-length-le}
 use lib.Seq.{getD-set-same, getD-set-other, take-append-le, take-all, take-append-add, take-suc, take-suc-set, set-append-left, set-at, getD-append-add, getD-append-seam, getD-at, take-take, ext-getD, take-set-le, set-append-seam, append-snoc, length-take-le, drop-cons, getD-take, take-set-lt, drop-set-lt, drop-drop}
-use Rattle.model.specs.Machine.{filled}
+use Rattle.document.specs.Machine.{filled}
 use Rattle.model.specs.Sets.{anyOf, memb, listTo, filterTo}
 use Rattle.model.specs.Sums.{bit, sumTo, anyTo}
 use Rattle.laws.specs.Sums.{sum-le, sum-add, sum-zero, sum-next, sum-more, bit-le, bits-le}

@@ -16,8 +16,8 @@ use Rattle.model.specs.declared.answers.Fault.{Fault}
 use Rattle.model.specs.declared.answers.Stepped.{Stepped}
 use Rattle.model.specs.Limits.{lastSlot}
 use Rattle.model.specs.Sets.{used, filterTo}
-use Rattle.model.specs.Delay.{ways}
-use Rattle.model.specs.Machine.{ordered, place, placedAt, stepIf}
+use Rattle.document.specs.Delay.{ways}
+use Rattle.document.specs.Machine.{ordered, place, placedAt, stepIf}
 use Rattle.laws.specs.Accepted.{accepted, ones-pos}
 use Rattle.laws.specs.Sums.{and-l, and-r}
 use Rattle.laws.specs.Used.{used-count}

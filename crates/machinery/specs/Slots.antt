@@ -21,11 +21,11 @@ use Rattle.model.specs.declared.answers.Delivery.{Delivery}
 use Rattle.model.specs.declared.answers.Fault.{Fault}
 use Rattle.model.specs.declared.answers.Stepped.{Stepped}
 use Rattle.model.specs.Refusals.{good, noFault}
-use Rattle.model.specs.Reader.{recordFault}
+use Rattle.document.specs.Reader.{recordFault}
 use Rattle.model.specs.Sums.{bit, anyTo}
-use Rattle.model.specs.Sets.{noFlow, freshState, flowAt, used, anyOf, memb, meet, filterTo}
-use Rattle.model.specs.Delay.{ways, work, workAt}
-use Rattle.model.specs.Machine.{releaseAt, deadlineAt, had, ready, countAt, hadAt, readyAt, dueAt, linkOf, tryOf, linkAt, radioChannel, sendOf, ordered, place, placedAt, countAfter, deliveredAt, droppedAt, nextState, sendsAt, deliveriesOf, filled, noSend, noDelivery, stepIf, badState, runOf}
+use Rattle.model.specs.Sets.{noFlow, freshState, flowAt, used, anyOf, memb, meet, filterTo, work}
+use Rattle.document.specs.Delay.{ways, workAt}
+use Rattle.document.specs.Machine.{releaseAt, deadlineAt, had, ready, countAt, hadAt, readyAt, dueAt, linkOf, tryOf, linkAt, radioChannel, sendOf, ordered, place, placedAt, countAfter, deliveredAt, droppedAt, nextState, sendsAt, deliveriesOf, filled, noSend, noDelivery, stepIf, badState, runOf}
 use Rattle.laws.specs.Accepted.{Accepted, accepted}
 use Rattle.laws.specs.Used.{used-map, used-count, used-flow}
 use Rattle.laws.specs.Sums.{and-l, and-r}

@@ -21,9 +21,9 @@ use Rattle.model.specs.Limits.{mostFlows, lastSlot}
 use Rattle.model.specs.Refusals.{good, faultAt, noFault, orElse}
 use Rattle.model.specs.Sums.{bit, anyTo}
 use Rattle.model.specs.Sets.{flowAt, freshState, memb, listTo}
-use Rattle.model.specs.Reader.{recordFault}
-use Rattle.model.specs.Delay.{workAt}
-use Rattle.model.specs.Machine.{releaseAt, had, ready, nextCount, countAt, hadAt, readyAt, placedAt, countAfter, nextState, badState, stepFault, stepped, stepIf, stepOf, runMore, runOf}
+use Rattle.document.specs.Reader.{recordFault}
+use Rattle.document.specs.Delay.{workAt}
+use Rattle.document.specs.Machine.{releaseAt, had, ready, nextCount, countAt, hadAt, readyAt, placedAt, countAfter, nextState, badState, stepFault, stepped, stepIf, stepOf, runMore, runOf}
 use Rattle.laws.specs.Sums.{any-none}
 use Rattle.laws.specs.Accepted.{Accepted, accepted}
 use Rattle.machinery.specs.Lists.{length-listTo, getD-listTo, getD-zeros}

@@ -11,8 +11,8 @@ use Rattle.model.specs.declared.kinds.State.{State}
 use Rattle.model.specs.declared.answers.Send.{Send}
 use Rattle.model.specs.Limits.{mostChannels}
 use Rattle.model.specs.Sets.{used}
-use Rattle.model.specs.Machine.{sendsAt, sendsFrom, placedAt, noSend, filled}
-use Rattle.model.specs.Program.{sendLines}
+use Rattle.document.specs.Machine.{sendsAt, sendsFrom, placedAt, noSend, filled}
+use Rattle.document.specs.Program.{sendLines}
 use Rattle.laws.specs.Used.{used-map}
 use Rattle.machinery.specs.Choice.{placed-le}
 

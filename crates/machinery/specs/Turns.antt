@@ -16,7 +16,7 @@ use lib.Seq.{getD-set-same, getD-set-other}
 use Rattle.model.specs.declared.kinds.FlowSet.{FlowSet}
 use Rattle.model.specs.declared.kinds.State.{State}
 use Rattle.model.specs.Sets.{flowAt, used}
-use Rattle.model.specs.Machine.{deadlineAt, countAt, hadAt, dueAt}
+use Rattle.document.specs.Machine.{deadlineAt, countAt, hadAt, dueAt}
 use Rattle.laws.specs.Used.{used-count}
 use Rattle.machinery.specs.Lists.{Through, through-next, through-stay}
 use Rattle.machinery.specs.Dues.{dueIn, due-first, hadIn, had-is, Seen}

@@ -7,8 +7,8 @@ use native.Mathlib.Omega.{arith}
 use borrow.Author.Tests.{ltb-true, ltb-false}
 use lib.Dec.{ltb}
 use lib.IntN.{ℤ, pos, negsuc, _+ℤ_, _-ℤ_, negℤ, pos-+ℤ-pos, +ℤ-negℤ-cancel, negℤ-+ℤ, +ℤ-assoc, +ℤ-invr, +ℤ-idl}
-use Rattle.model.specs.Text.{decimal}
-use Rattle.model.specs.Program.{signed}
+use Rattle.document.specs.Text.{decimal}
+use Rattle.document.specs.Program.{signed}
 
 abbrev pub marginText : ℕ → ℕ → List ℕ
 marginText d t = cond (ltb d t) (45 ∷ decimal (t - d)) (decimal (d - t))

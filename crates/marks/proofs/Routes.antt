@@ -13,8 +13,8 @@ use lib.ListN.{length, getD, take, drop, set, drop-of-length-le, length-take, le
 use lib.Seq.{drop-cons, getD-take, length-take-le, getD-set-same, getD-set-other}
 use Rattle.model.specs.declared.kinds.Flow.{Flow}
 use Rattle.model.specs.Sums.{bit, sumTo, anyTo}
-use Rattle.model.specs.Sets.{anyOf, memb, meet, exact}
-use Rattle.model.specs.Delay.{links, touches, conflictWork}
+use Rattle.model.specs.Sets.{anyOf, memb, meet, exact, links}
+use Rattle.document.specs.Delay.{touches, conflictWork}
 use Rattle.laws.specs.Sums.{sum-ext}
 use Rattle.marks.specs.Marks.{Marked, endOn, endsOn}
 

@@ -13,8 +13,8 @@ use Rattle.model.specs.declared.kinds.Flow.{Flow}
 use Rattle.model.specs.declared.kinds.FlowSet.{FlowSet}
 use Rattle.model.specs.Limits.{mostFlows}
 use Rattle.model.specs.Sums.{bit, sumTo, anyTo}
-use Rattle.model.specs.Sets.{flowAt, memb, meet, exact, used}
-use Rattle.model.specs.Delay.{links, touches, conflictWork}
+use Rattle.model.specs.Sets.{flowAt, memb, meet, exact, used, links}
+use Rattle.document.specs.Delay.{touches, conflictWork}
 use Rattle.laws.specs.Sums.{sum-next, sum-ext, sum-zero}
 use Rattle.laws.specs.Used.{used-flow}
 use Rattle.grid.specs.Grid.{pairAt, conflictOf, RowsTo}

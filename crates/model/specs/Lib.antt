@@ -2,9 +2,3 @@ pub mod Limits
 pub mod Refusals
 pub mod Sums
 pub mod Sets
-pub mod Text
-pub mod Reader
-pub mod Delay
-pub mod Machine
-pub mod Program
-pub mod Table

@@ -1,6 +1,6 @@
 -- Document 01, "The flow set": records, the blank ones, and when two records are the same set.
 use mathlib.Core.{Path.{_≡_}, Bool.{Bool, false, _||_, cond}, List.{List, [], _∷_, _++_, map}}
-use Prim.Native.Nat.{ℕ, zero, suc}
+use Prim.Native.Nat.{ℕ, zero, suc, _-_, _*_}
 use lib.{Dec.{eqb}, ListN.{getD, take, replicate}}
 use Rattle.model.specs.declared.kinds.{Flow.{Flow}, FlowSet.{FlowSet}, State.{State}}
 use Rattle.model.specs.Limits.{mostFlows, mostNodes}
@@ -23,6 +23,14 @@ blankSet = record { map = record { 0 = 0 }; count = 0; flows = replicate mostFlo
 -- the fresh state: slot 0, no transmission had
 abbrev pub freshState : State
 freshState = record { slot = record { 0 = 0 }; sent = replicate mostFlows 0 }
+
+-- a flow's links: one less than the nodes of its route
+abbrev pub links : Flow → ℕ
+links f = f .nodes - 1
+
+-- C = links × κ
+abbrev pub work : Flow → ℕ
+work f = links f * f .tries
 
 -- flow number k
 abbrev pub flowAt : FlowSet → ℕ → Flow

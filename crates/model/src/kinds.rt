@@ -4,9 +4,8 @@ ghost use mathlib.Core.Path.{_≡_};
 ghost use Prim.Native.Nat.{_+_, _-_, _≤_, min};
 ghost use lib.Count.{ones};
 ghost use lib.Dec.{leb};
-ghost use Rattle.model.specs.Delay.{links, work};
+ghost use Rattle.model.specs.Sets.{links, work, blankFlow, blankSet, freshState};
 ghost use Rattle.model.specs.Limits.{limitsOf};
-ghost use Rattle.model.specs.Sets.{blankFlow, blankSet, freshState};
 
 // An absolute slot number: slots of 10 ms, counted from the machine's first.
 #[repr(C)]

@@ -10,7 +10,7 @@ use lib.Dec.{leb, ltb, eqb}
 use lib.ListN.{length, getD, take, drop, drop-of-length-le}
 use lib.Seq.{drop-cons, drop-drop, getD-drop}
 use borrow.Author.Tests.{eqb-true, ltb-true, ltb-false, eqb-false, leb-true, leb-false, lt-ltb, le-ltb, le-leb, lt-leb, ne-eqb}
-use Rattle.model.specs.Text.{tab, lf, zeroDigit, fields, isDigit, allDigits, plain, valueFrom, valueOf, isNumber}
+use Rattle.document.specs.Text.{tab, lf, zeroDigit, fields, isDigit, allDigits, plain, valueFrom, valueOf, isNumber}
 use Rattle.digits.specs.Places.{first, lookByte, lookAt}
 use Rattle.digits.specs.Answers.{numberIf, numberIn, numberOf}
 use Rattle.digits.specs.declared.NumberRead.the-variants.{Value, Refused}

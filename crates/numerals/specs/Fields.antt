@@ -8,7 +8,7 @@ use lib.Dec.{leb, ltb, eqb}
 use lib.ListN.{length, getD, take, drop, drop-of-length-le}
 use lib.Seq.{drop-cons, drop-drop}
 use borrow.Author.Tests.{eqb-true}
-use Rattle.model.specs.Text.{tab, lf, onto, lines, ended, fields, firstOf, othersOf, wellFormed, numbersOf}
+use Rattle.document.specs.Text.{tab, lf, onto, lines, ended, fields, firstOf, othersOf, wellFormed, numbersOf}
 use Rattle.digits.specs.Places.{first, more, line, after}
 
 -- what a byte is in a text

@@ -11,10 +11,10 @@ use Rattle.model.specs.declared.kinds.FlowSet.{FlowSet}
 use Rattle.model.specs.Refusals.{good, noFault}
 use Rattle.model.specs.Sums.{bit}
 use Rattle.model.specs.Sets.{used}
-use Rattle.model.specs.Reader.{recordFault}
-use Rattle.model.specs.Delay.{boundsOf, boundsIf, boundsFault, verdictOf}
-use Rattle.model.specs.Machine.{sendsAt, runOf}
-use Rattle.model.specs.Program.{boundLines, runLines, planOf, verdictWord}
+use Rattle.document.specs.Reader.{recordFault}
+use Rattle.document.specs.Delay.{boundsOf, boundsIf, boundsFault, verdictOf}
+use Rattle.document.specs.Machine.{sendsAt, runOf}
+use Rattle.document.specs.Program.{boundLines, runLines, planOf, verdictWord}
 use Rattle.laws.specs.Accepted.{accepted}
 use Rattle.printing.specs.Lengths.{line-le, bounds-le, sends-le}
 use Rattle.bound_line.specs.BoundText.{boundText, bound-text}

@@ -11,9 +11,9 @@ use Rattle.model.specs.declared.answers.Reading.{Reading}
 use Rattle.model.specs.declared.answers.Written.{Written}
 use Rattle.model.specs.declared.answers.Refusal.the-variants.{NoRoom}
 use Rattle.model.specs.Refusals.{good, faultAt, noFault}
-use Rattle.model.specs.Reader.{recordFault}
+use Rattle.document.specs.Reader.{recordFault}
 use Rattle.model.specs.Sets.{used}
-use Rattle.model.specs.Program.{planIf, planText}
+use Rattle.document.specs.Program.{planIf, planText}
 
 -- a text that was read without fault passes the record check
 abbrev pub Passed : Reading → Type 0

@@ -18,8 +18,8 @@ use Rattle.model.specs.declared.answers.Refusal.the-variants.{BadForm}
 use Rattle.model.specs.Limits.{mostFlows, mostNodes}
 use Rattle.model.specs.Refusals.{good, faultAt, noFault, orElse}
 use Rattle.model.specs.Sets.{noFlow, blankFlow, flowAt, exact, used}
-use Rattle.model.specs.Text.{lines, wellFormed, setWord, flowWord, numbersOf}
-use Rattle.model.specs.Reader.{mapFault, flowFault, recordFlowFault, flowsFault, recordFault, pad, flowOf, withFlow, firstLineFault, flowLineFault, refusedReading, readFlows, setOf, readLines, readText}
+use Rattle.document.specs.Text.{lines, wellFormed, setWord, flowWord, numbersOf}
+use Rattle.document.specs.Reader.{mapFault, flowFault, recordFlowFault, flowsFault, recordFault, pad, flowOf, withFlow, firstLineFault, flowLineFault, refusedReading, readFlows, setOf, readLines, readText}
 use Rattle.laws.specs.Accepted.{good-flow}
 use Rattle.laws.specs.Used.{used-map, used-count, used-flow}
 

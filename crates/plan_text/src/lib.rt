@@ -2,7 +2,7 @@
 ghost use mathlib.Core.Path.{_≡_};
 ghost use Prim.Native.Nat.{_≤_};
 ghost use lib.ListN.{length};
-ghost use Rattle.model.specs.Program.{planText};
+ghost use Rattle.document.specs.Program.{planText};
 ghost use Rattle.puts.specs.Stores.{Put};
 ghost use Rattle.plan_text.specs.Plans.{Passed, planRead, planAnswer, planInto};
 

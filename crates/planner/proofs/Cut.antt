@@ -11,8 +11,8 @@ use Rattle.model.specs.declared.answers.Fault.{Fault}
 use Rattle.model.specs.declared.answers.Refusal.the-variants.{NoSuchFlow}
 use Rattle.model.specs.Refusals.{good, orElse, faultAt}
 use Rattle.model.specs.Sets.{used}
-use Rattle.model.specs.Delay.{boundsOf, boundsFault, boundsIf}
-use Rattle.model.specs.Reader.{recordFault}
+use Rattle.document.specs.Delay.{boundsOf, boundsFault, boundsIf}
+use Rattle.document.specs.Reader.{recordFault}
 use Rattle.c_numbers.specs.Numbers.{refusedBounds}
 use Rattle.laws.specs.Used.{used-count}
 

@@ -21,8 +21,8 @@ use Rattle.model.specs.declared.answers.Refusal.the-variants.{NoRoom, BadState}
 use Rattle.model.specs.Limits.{mostFlows, mostChannels}
 use Rattle.model.specs.Refusals.{good, faultAt, noFault, orElse}
 use Rattle.model.specs.Sets.{used}
-use Rattle.model.specs.Machine.{stepOf, stepIf, stepFault, sendsAt, sendsFrom, placedAt, nextState, noSend, filled}
-use Rattle.model.specs.Program.{stateOf, stateBytes, stateLength, sendLines, slotLines, slotFault, slotState, slotBuffer}
+use Rattle.document.specs.Machine.{stepOf, stepIf, stepFault, sendsAt, sendsFrom, placedAt, nextState, noSend, filled}
+use Rattle.document.specs.Program.{stateOf, stateBytes, stateLength, sendLines, slotLines, slotFault, slotState, slotBuffer}
 use Rattle.laws.specs.Used.{used-map}
 use Rattle.laws.specs.Accepted.{or-else-good}
 use Rattle.machinery.specs.Steps.{lines-of}

@@ -7,8 +7,8 @@ use Rattle.model.specs.declared.answers.Verdict.{Verdict}
 use Rattle.model.specs.declared.answers.Bounds.{Bounds}
 use Rattle.model.specs.Refusals.{good}
 use Rattle.model.specs.Sets.{used}
-use Rattle.model.specs.Reader.{readText}
-use Rattle.model.specs.Delay.{verdictOf, boundsOf}
+use Rattle.document.specs.Reader.{readText}
+use Rattle.document.specs.Delay.{verdictOf, boundsOf}
 use Rattle.planner.specs.Slots.{slotAnswer}
 use Rattle.c_numbers.specs.declared.VerdictAnswer.{VerdictAnswer}
 use Rattle.c_numbers.specs.declared.BoundsAnswer.{BoundsAnswer}

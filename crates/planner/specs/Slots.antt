@@ -7,7 +7,7 @@ use Rattle.model.specs.declared.answers.Reading.{Reading}
 use Rattle.model.specs.declared.answers.Written.{Written}
 use Rattle.model.specs.Refusals.{good}
 use Rattle.model.specs.Sets.{used}
-use Rattle.model.specs.Program.{slotLines, slotFault}
+use Rattle.document.specs.Program.{slotLines, slotFault}
 
 unfoldable pub slotAnswer : Reading → List ℕ → ℕ → Written
 slotAnswer r state room =

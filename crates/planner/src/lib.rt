@@ -1,8 +1,8 @@
 // What C calls: the verdict, one flow's bounds and one slot, over a set's text.
 ghost use mathlib.Core.Path.{_≡_};
 ghost use lib.ListN.{length};
-ghost use Rattle.model.specs.Reader.{readText};
-ghost use Rattle.model.specs.Program.{slotState, slotBuffer};
+ghost use Rattle.document.specs.Reader.{readText};
+ghost use Rattle.document.specs.Program.{slotState, slotBuffer};
 ghost use Rattle.planner.specs.ForC.{verdictForC, boundsForC, slotForC};
 
 mod reading;

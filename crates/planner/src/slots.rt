@@ -1,7 +1,7 @@
 // One slot for C: the next state and the slot's lines, written into what C has lent.
 ghost use mathlib.Core.Path.{_≡_};
 ghost use lib.ListN.{length};
-ghost use Rattle.model.specs.Program.{slotState, slotBuffer};
+ghost use Rattle.document.specs.Program.{slotState, slotBuffer};
 ghost use Rattle.planner.specs.Slots.{slotAnswer};
 use model::Reading;
 use model::Written;

@@ -9,9 +9,9 @@ use lib.Seq.{sets, sets-eq, length-sets, take-at}
 use Rattle.model.specs.declared.kinds.FlowSet.{FlowSet}
 use Rattle.model.specs.declared.answers.Bounds.{Bounds}
 use Rattle.model.specs.declared.answers.Send.{Send}
-use Rattle.model.specs.Text.{decimal, decimals, lineOf, tabbed}
-use Rattle.model.specs.Delay.{boundsOf}
-use Rattle.model.specs.Program.{sendLines, sendNumbers, sendWord, signed, boundLine, boundLines}
+use Rattle.document.specs.Text.{decimal, decimals, lineOf, tabbed}
+use Rattle.document.specs.Delay.{boundsOf}
+use Rattle.document.specs.Program.{sendLines, sendNumbers, sendWord, signed, boundLine, boundLines}
 use Rattle.decimals.specs.Decimals.{decimal-most}
 use Rattle.puts.specs.Stores.{Put, lastPlace}
 

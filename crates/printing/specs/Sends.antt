@@ -8,8 +8,8 @@ use native.Mathlib.Numerals.{add-one}
 use lib.ListN.{length, take, getD}
 use lib.Seq.{take-suc, take-all}
 use Rattle.model.specs.declared.answers.Send.{Send}
-use Rattle.model.specs.Text.{lineOf}
-use Rattle.model.specs.Program.{sendLines, sendNumbers, sendWord}
+use Rattle.document.specs.Text.{lineOf}
+use Rattle.document.specs.Program.{sendLines, sendNumbers, sendWord}
 
 send-append : (xs ys : List Send) → sendLines (xs ++ ys) ≡ sendLines xs ++ sendLines ys
 unfolding sendLines

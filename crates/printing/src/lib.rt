@@ -2,8 +2,8 @@
 ghost use Prim.Native.Nat.{_≤_, min};
 ghost use mathlib.Core.Path.{_≡_};
 ghost use lib.ListN.{take};
-ghost use Rattle.model.specs.Text.{lineOf};
-ghost use Rattle.model.specs.Program.{refusedLine, sendLines, sendNumbers, sendWord};
+ghost use Rattle.document.specs.Text.{lineOf};
+ghost use Rattle.document.specs.Program.{refusedLine, sendLines, sendNumbers, sendWord};
 ghost use Rattle.puts.specs.Stores.{Put};
 use model::ChannelMap;
 use model::Fault;

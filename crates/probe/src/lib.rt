@@ -2,9 +2,9 @@
 // 01's number.
 ghost use mathlib.Core.Path.{_≡_};
 ghost use lib.ListN.{length};
-ghost use Rattle.model.specs.Reader.{recordFault, readText, writeAnswer, writeInto};
-ghost use Rattle.model.specs.Delay.{verdictOf, boundsOf};
-ghost use Rattle.model.specs.Machine.{stepOf, runOf};
+ghost use Rattle.document.specs.Reader.{recordFault, readText, writeAnswer, writeInto};
+ghost use Rattle.document.specs.Delay.{verdictOf, boundsOf};
+ghost use Rattle.document.specs.Machine.{stepOf, runOf};
 ghost use Rattle.model.specs.Sets.{used};
 ghost use Rattle.model.specs.Sums.{bit};
 ghost use Rattle.plan_text.specs.Plans.{planAnswer, planInto};

@@ -19,9 +19,9 @@ use Rattle.model.specs.Limits.{mostChannels, lastSlot}
 use Rattle.model.specs.Refusals.{good}
 use Rattle.model.specs.Sums.{allTo}
 use Rattle.model.specs.Sets.{flowAt, used, filterTo}
-use Rattle.model.specs.Reader.{recordFault, readText}
-use Rattle.model.specs.Delay.{deadline, basicBound, valueAt, deadlines, reached, tightBound, admits, verdictIf, verdictOf, boundsFault, boundsIf, boundsOf}
-use Rattle.model.specs.Machine.{droppedAt, stepOf, runOf}
+use Rattle.document.specs.Reader.{recordFault, readText}
+use Rattle.document.specs.Delay.{deadline, basicBound, valueAt, deadlines, reached, tightBound, admits, verdictIf, verdictOf, boundsFault, boundsIf, boundsOf}
+use Rattle.document.specs.Machine.{droppedAt, stepOf, runOf}
 use Rattle.laws.specs.Sums.{and-l, and-r}
 use Rattle.laws.specs.Used.{used-count, used-flow, used-map}
 use Rattle.laws.specs.Accepted.{accepted}

@@ -15,9 +15,9 @@ use Rattle.model.specs.Limits.{mostChannels, lastSlot}
 use Rattle.model.specs.Refusals.{good}
 use Rattle.model.specs.Sums.{bit, anyTo}
 use Rattle.model.specs.Sets.{flowAt}
-use Rattle.model.specs.Reader.{recordFault}
-use Rattle.model.specs.Delay.{period, workAt}
-use Rattle.model.specs.Machine.{releaseAt, deadlineAt, placedAt, sendOf, stepOf}
+use Rattle.document.specs.Reader.{recordFault}
+use Rattle.document.specs.Delay.{period, workAt}
+use Rattle.document.specs.Machine.{releaseAt, deadlineAt, placedAt, sendOf, stepOf}
 use Rattle.laws.specs.Sums.{count, sum-ext, sum-more, sum-next, any-in, any-find}
 use Rattle.argument.specs.Load.{release-le}
 use Rattle.promise.specs.Promise.{report, send, Is}

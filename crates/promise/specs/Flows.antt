@@ -16,9 +16,9 @@ use Rattle.model.specs.Limits.{mostChannels, lastSlot}
 use Rattle.model.specs.Refusals.{good}
 use Rattle.model.specs.Sums.{bit, sumTo}
 use Rattle.model.specs.Sets.{flowAt}
-use Rattle.model.specs.Reader.{recordFault}
-use Rattle.model.specs.Delay.{period, deadline, workAt, valueAt}
-use Rattle.model.specs.Machine.{release, packetAt, releaseAt, deadlineAt, droppedAt, stepOf}
+use Rattle.document.specs.Reader.{recordFault}
+use Rattle.document.specs.Delay.{period, deadline, workAt, valueAt}
+use Rattle.document.specs.Machine.{release, packetAt, releaseAt, deadlineAt, droppedAt, stepOf}
 use Rattle.laws.specs.Sums.{count, sum-more, sum-next}
 use Rattle.laws.specs.Accepted.{Accepted, accepted}
 use Rattle.argument.specs.Load as load

@@ -11,8 +11,8 @@ use Rattle.model.specs.declared.answers.Stepped.{Stepped}
 use Rattle.model.specs.Limits.{firstChannel, mostFlows}
 use Rattle.model.specs.Refusals.{noFault}
 use Rattle.model.specs.Sets.{flowAt, memb, listTo, filterTo}
-use Rattle.model.specs.Delay.{ways, workAt}
-use Rattle.model.specs.Machine.{released, nextCount, countAt, hadAt, readyAt, dueAt, ahead, ordered, place, clashAt, placedAt, sendsFrom, countAfter, deliveredAt, deliveriesOf, droppedAt, nextState, stepped, stepIf, stepOf}
+use Rattle.document.specs.Delay.{ways, workAt}
+use Rattle.document.specs.Machine.{released, nextCount, countAt, hadAt, readyAt, dueAt, ahead, ordered, place, clashAt, placedAt, sendsFrom, countAfter, deliveredAt, deliveriesOf, droppedAt, nextState, stepped, stepIf, stepOf}
 
 -- it moves to the next slot, sends nothing and drops nothing
 unfoldable pub idle : FlowSet → State → Stepped

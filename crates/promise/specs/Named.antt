@@ -9,11 +9,11 @@ use Rattle.model.specs.Limits.{lastSlot}
 use Rattle.model.specs.Refusals.{good}
 use Rattle.model.specs.Sums.{sumTo, anyTo, allTo}
 use Rattle.model.specs.Sets.{used, anyOf, meet, listTo}
-use Rattle.model.specs.Text.{same, lines, ended, fields, allDigits, valueFrom, isNumber, allNumbers, valuesOf, wellFormed, numbersOf}
-use Rattle.model.specs.Reader.{twice, flowFault, flowsFault, recordFault, flowOf, withFlow, firstLineFault, flowLineFault, readFlows, setOf, readLines, readText}
-use Rattle.model.specs.Delay.{conflictWork, share, overOthers, boundWith, basicBound, valueAt, deadlines, lowered, roundTo, roundsIn, reached, tightBound, admits, verdictOf, boundsOf}
-use Rattle.model.specs.Machine.{stepOf}
-use Rattle.model.specs.Table.{bytes}
+use Rattle.document.specs.Text.{same, lines, ended, fields, allDigits, valueFrom, isNumber, allNumbers, valuesOf, wellFormed, numbersOf}
+use Rattle.document.specs.Reader.{twice, flowFault, flowsFault, recordFault, flowOf, withFlow, firstLineFault, flowLineFault, readFlows, setOf, readLines, readText}
+use Rattle.document.specs.Delay.{conflictWork, share, overOthers, boundWith, basicBound, valueAt, deadlines, lowered, roundTo, roundsIn, reached, tightBound, admits, verdictOf, boundsOf}
+use Rattle.document.specs.Machine.{stepOf}
+use Rattle.document.specs.Table.{bytes}
 use Rattle.promise.specs.Promise.{Kept}
 use Rattle.promise.specs.Demand.{demand-3}
 use native.Mathlib.Nat.{le-refl}

@@ -3,10 +3,11 @@ use mathlib.Core.{Bool.{true}, Logic.{_≢_}, Path.{_≡_}}
 use Prim.Native.Nat.{ℕ, zero, suc, _+_, _/_, _%_, _^_, _≤_, _<_}
 use lib.ListN.{length, getD}
 use Rattle.model.specs.declared.{answers.Send.{Send}, answers.Stepped.{Stepped}, kinds.FlowSet.{FlowSet}, kinds.State.{State}}
-use Rattle.model.specs.{Reader.{recordFault}, Refusals.{good}, Sets.{flowAt, freshState, memb, used}}
-use Rattle.model.specs.Delay.{ways, workAt, verdictOf, boundsOf}
+use Rattle.model.specs.{Refusals.{good}, Sets.{flowAt, freshState, memb, used}}
+use Rattle.document.specs.Reader.{recordFault}
+use Rattle.document.specs.Delay.{ways, workAt, verdictOf, boundsOf}
 use Rattle.model.specs.Limits.{mostChannels, mostNodes, lastSlot}
-use Rattle.model.specs.Machine.{channels, noSend, release}
+use Rattle.document.specs.Machine.{channels, noSend, release}
 
 -- what slot t reports: the first step is from the fresh state, each later one from the state that the one before gave
 unfoldable pub report : (FlowSet → State → Stepped) → FlowSet → ℕ → Stepped

@@ -19,8 +19,8 @@ use Rattle.model.specs.declared.answers.Refusal.the-variants.{BadForm}
 use Rattle.model.specs.Limits.{mostFlows, mostNodes}
 use Rattle.model.specs.Refusals.{good, faultAt, orElse}
 use Rattle.model.specs.Sets.{noFlow, blankFlow, flowAt, exact, used}
-use Rattle.model.specs.Text.{setWord, flowWord, lines, fields, othersOf, valueOf, isNumber, allNumbers, valuesOf, wellFormed, numbersOf}
-use Rattle.model.specs.Reader.{mapFault, recordFlowFault, flowsFault, recordFault, pad, flowOf, withFlow, firstLineFault, flowLineFault, refusedReading, readFlows, setOf, readLines, readText}
+use Rattle.document.specs.Text.{setWord, flowWord, lines, fields, othersOf, valueOf, isNumber, allNumbers, valuesOf, wellFormed, numbersOf}
+use Rattle.document.specs.Reader.{mapFault, recordFlowFault, flowsFault, recordFault, pad, flowOf, withFlow, firstLineFault, flowLineFault, refusedReading, readFlows, setOf, readLines, readText}
 use Rattle.laws.specs.Sums.{and-l, and-r}
 use Rattle.laws.specs.Used.{used-map, used-count, used-flow}
 use Rattle.laws.specs.Accepted.{good-flow}

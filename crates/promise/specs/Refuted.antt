@@ -15,11 +15,11 @@ use Rattle.model.specs.Limits.{lastSlot}
 use Rattle.model.specs.Refusals.{good}
 use Rattle.model.specs.Sums.{sumTo, anyTo, allTo}
 use Rattle.model.specs.Sets.{freshState, flowAt, memb, used, anyOf, meet, listTo, filterTo}
-use Rattle.model.specs.Text.{same, lines, ended, fields, allDigits, valueFrom, isNumber, allNumbers, valuesOf, wellFormed, numbersOf}
-use Rattle.model.specs.Reader.{twice, flowFault, flowsFault, recordFault, flowOf, withFlow, firstLineFault, flowLineFault, readFlows, setOf, readLines, readText}
-use Rattle.model.specs.Delay.{ways, period, workAt, conflictWork, share, overOthers, boundWith, basicBound, valueAt, deadlines, lowered, roundTo, roundsIn, reached, tightBound, admits, verdictOf, boundsFault, boundsOf}
-use Rattle.model.specs.Machine.{release, channels, ready, nextCount, insert, ordered, place, placedAt, channelsTo, radioChannel, sendOf, sendsFrom, countAfter, deliveredAt, deliveriesOf, droppedAt, nextState, badState, stepFault, stepOf}
-use Rattle.model.specs.Table.{bytes}
+use Rattle.document.specs.Text.{same, lines, ended, fields, allDigits, valueFrom, isNumber, allNumbers, valuesOf, wellFormed, numbersOf}
+use Rattle.document.specs.Reader.{twice, flowFault, flowsFault, recordFault, flowOf, withFlow, firstLineFault, flowLineFault, readFlows, setOf, readLines, readText}
+use Rattle.document.specs.Delay.{ways, period, workAt, conflictWork, share, overOthers, boundWith, basicBound, valueAt, deadlines, lowered, roundTo, roundsIn, reached, tightBound, admits, verdictOf, boundsFault, boundsOf}
+use Rattle.document.specs.Machine.{release, channels, ready, nextCount, insert, ordered, place, placedAt, channelsTo, radioChannel, sendOf, sendsFrom, countAfter, deliveredAt, deliveriesOf, droppedAt, nextState, badState, stepFault, stepOf}
+use Rattle.document.specs.Table.{bytes}
 use Rattle.promise.specs.Promise.{report, send, Is, Made, Kept, PromiseWith, Promise}
 use Rattle.promise.specs.Run.{report-slot}
 use Rattle.promise.specs.Reading.{text-passes}

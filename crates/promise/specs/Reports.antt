@@ -16,9 +16,9 @@ use Rattle.model.specs.declared.answers.Stepped.{Stepped}
 use Rattle.model.specs.Limits.{mostChannels, mostFlows, lastSlot}
 use Rattle.model.specs.Refusals.{good}
 use Rattle.model.specs.Sets.{flowAt, memb, filterTo}
-use Rattle.model.specs.Reader.{recordFault}
-use Rattle.model.specs.Delay.{ways}
-use Rattle.model.specs.Machine.{hadAt, placedAt, noSend, sendOf, sendsFrom, sendsAt, droppedAt, filled, stepOf}
+use Rattle.document.specs.Reader.{recordFault}
+use Rattle.document.specs.Delay.{ways}
+use Rattle.document.specs.Machine.{hadAt, placedAt, noSend, sendOf, sendsFrom, sendsAt, droppedAt, filled, stepOf}
 use Rattle.laws.specs.Accepted.{accepted}
 use Rattle.argument.specs.Members.{memb-none, memb-case, memb-at}
 use Rattle.promise.specs.Promise.{report, send, Is}

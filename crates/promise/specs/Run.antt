@@ -17,9 +17,9 @@ use Rattle.model.specs.Limits.{mostFlows, lastSlot}
 use Rattle.model.specs.Refusals.{good, noFault}
 use Rattle.model.specs.Sums.{bit, anyTo}
 use Rattle.model.specs.Sets.{flowAt, freshState, memb, listTo}
-use Rattle.model.specs.Reader.{recordFault}
-use Rattle.model.specs.Delay.{ways, workAt}
-use Rattle.model.specs.Machine.{ready, nextCount, released, releaseAt, countAt, hadAt, readyAt, dueAt, ahead, clashAt, placedAt, countAfter, droppedAt, nextState, badState, stepFault, stepIf, stepOf, runOf}
+use Rattle.document.specs.Reader.{recordFault}
+use Rattle.document.specs.Delay.{ways, workAt}
+use Rattle.document.specs.Machine.{ready, nextCount, released, releaseAt, countAt, hadAt, readyAt, dueAt, ahead, clashAt, placedAt, countAfter, droppedAt, nextState, badState, stepFault, stepIf, stepOf, runOf}
 use Rattle.laws.specs.Sums.{any-find, and-l, and-r, and-i, or-case, or-l, or-r}
 use Rattle.laws.specs.Accepted.{accepted}
 use Rattle.greatest.specs.Values.{list-length, list-entry}

@@ -18,10 +18,9 @@ use borrow.Author.Tests.{eqb-true, eqb-false}
 use Rattle.model.specs.declared.kinds.FlowSet.{FlowSet}
 use Rattle.model.specs.Limits.{firstChannel, mostChannels, lastSlot}
 use Rattle.model.specs.Refusals.{good}
-use Rattle.model.specs.Sets.{flowAt, memb, meet}
-use Rattle.model.specs.Reader.{twice, recordFault}
-use Rattle.model.specs.Delay.{links}
-use Rattle.model.specs.Machine.{hadAt, linkAt, placedAt, channelsTo, channels, radioChannel, sendOf, stepOf}
+use Rattle.model.specs.Sets.{flowAt, memb, meet, links}
+use Rattle.document.specs.Reader.{twice, recordFault}
+use Rattle.document.specs.Machine.{hadAt, linkAt, placedAt, channelsTo, channels, radioChannel, sendOf, stepOf}
 use Rattle.laws.specs.Sums.{or-case, or-l, or-r}
 use Rattle.laws.specs.Accepted.{accepted}
 use Rattle.argument.specs.Members.{memb-none, memb-snoc, memb-at, Pairs, pairs-snoc, pairs-at}

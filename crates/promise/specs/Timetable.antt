@@ -18,10 +18,10 @@ use Rattle.model.specs.declared.kinds.State.{State}
 use Rattle.model.specs.Limits.{lastSlot}
 use Rattle.model.specs.Refusals.{good}
 use Rattle.model.specs.Sums.{bit, sumTo}
-use Rattle.model.specs.Sets.{flowAt, memb, meet}
-use Rattle.model.specs.Reader.{recordFault}
-use Rattle.model.specs.Delay.{ways, period, deadline, links, work, workAt, touches, conflictWork, share, overOthers, boundWith, valueAt}
-use Rattle.model.specs.Machine.{had, releaseAt, deadlineAt, nextCount, countAt, hadAt, readyAt, dueAt, linkAt, ahead, clashAt, placedAt, countAfter}
+use Rattle.model.specs.Sets.{flowAt, memb, meet, links, work}
+use Rattle.document.specs.Reader.{recordFault}
+use Rattle.document.specs.Delay.{ways, period, deadline, workAt, touches, conflictWork, share, overOthers, boundWith, valueAt}
+use Rattle.document.specs.Machine.{had, releaseAt, deadlineAt, nextCount, countAt, hadAt, readyAt, dueAt, linkAt, ahead, clashAt, placedAt, countAfter}
 use Rattle.laws.specs.Sums.{count, sum-ext, sum-const, sum-split}
 use Rattle.laws.specs.Accepted.{Accepted, accepted, ones-pos}
 use Rattle.argument.specs.Members.{memb-none, memb-tail, memb-case, memb-head, one-of, some-of}

@@ -5,7 +5,7 @@ use Prim.Native.Nat.{ℕ, _+_, _<_, _≤_, min, zero-le}
 use native.Mathlib.Decide.{decLe}
 use native.Mathlib.Omega.{arith}
 use lib.ListN.{length, getD, take, length-append}
-use Rattle.model.specs.Text.{decimal, decimals, tabbed, lineOf}
+use Rattle.document.specs.Text.{decimal, decimals, tabbed, lineOf}
 use Rattle.decimals.specs.Stored.{sets-append, sets-out, take-next}
 use lib.Seq.{sets, length-sets}
 

@@ -3,7 +3,7 @@
 ghost use mathlib.Core.Path.{_≡_};
 ghost use mathlib.Core.List.{[], _∷_};
 ghost use Prim.Native.Nat.{_+_, min};
-ghost use Rattle.model.specs.Text.{decimal, lineOf};
+ghost use Rattle.document.specs.Text.{decimal, lineOf};
 ghost use Rattle.puts.specs.Stores.{Put, fieldsOf, lastPlace};
 use decimals::put_at;
 use decimals::put_digits;

@@ -1,7 +1,7 @@
 // The divisions of document 01's delay tests: q and r of two flows, and the one division of a bound.
 ghost use mathlib.Core.Path.{_≡_};
 ghost use Prim.Native.Nat.{_/_, _%_, _≤_, _<_};
-ghost use Rattle.model.specs.Delay.{joined};
+ghost use Rattle.document.specs.Delay.{joined};
 
 // q: how many whole periods a deadline has.
 pub fn quotient(deadline: u16, period: u16) -> u16

@@ -11,9 +11,9 @@ use Rattle.model.specs.declared.kinds.FlowSet.{FlowSet}
 use Rattle.model.specs.declared.answers.Refusal.{Refusal}
 use Rattle.model.specs.declared.answers.Refusal.the-variants.{BadForm}
 use Rattle.model.specs.Refusals.{refusalNumber, good}
-use Rattle.model.specs.Reader.{mapFault, firstLineFault, refusedReading, readFlows, setOf, readLines, readText}
+use Rattle.document.specs.Reader.{mapFault, firstLineFault, refusedReading, readFlows, setOf, readLines, readText}
 use Rattle.model.specs.Sets.{blankSet}
-use Rattle.model.specs.Text.{setWord, same, lines, fields, wellFormed, numbersOf}
+use Rattle.document.specs.Text.{setWord, same, lines, fields, wellFormed, numbersOf}
 use Rattle.laws.specs.Sums.{and-l}
 use Rattle.digits.specs.Places.{line, after}
 use Rattle.numerals.specs.Fields.{lines-line, formed-line, numbers-line, drop-line}

@@ -1,7 +1,7 @@
 // The reader: line by line, the first faulty line decides, and within it the lowest of 1 to 9.
 ghost use mathlib.Core.Path.{_≡_};
-ghost use Rattle.model.specs.Reader.{readText};
-ghost use Rattle.model.specs.Text.{setWord};
+ghost use Rattle.document.specs.Reader.{readText};
+ghost use Rattle.document.specs.Text.{setWord};
 ghost use Rattle.lines.specs.Answers.{rowIn};
 use first_line::first_fault;
 use flow_lines::read_flows;

@@ -6,7 +6,7 @@ use Rattle.model.specs.declared.answers.Fault.{Fault}
 use Rattle.model.specs.declared.answers.Written.{Written}
 use Rattle.model.specs.declared.answers.Refusal.the-variants.{BadState}
 use Rattle.model.specs.Refusals.{faultAt, noFault, orElse}
-use Rattle.model.specs.Program.{stateLength}
+use Rattle.document.specs.Program.{stateLength}
 
 abbrev pub refusedWriting : Fault → Written
 refusedWriting f = record { fault = f; length = 0 }

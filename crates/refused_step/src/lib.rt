@@ -8,7 +8,7 @@ ghost use lib.ListN.{getD};
 ghost use Rattle.model.specs.declared.answers.Refusal.the-variants.{AtLastSlot, BadState};
 ghost use Rattle.model.specs.Refusals.{faultAt, noFault};
 ghost use Rattle.model.specs.Sums.{anyTo};
-ghost use Rattle.model.specs.Machine.{stepped};
+ghost use Rattle.document.specs.Machine.{stepped};
 use model::ChannelMap;
 use model::Delivery;
 use model::Fault;

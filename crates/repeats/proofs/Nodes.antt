@@ -9,7 +9,7 @@ use borrow.Author.Tests.{eq-eqb, ne-eqb}
 use lib.Dec.{eqb}
 use lib.ListN.{length, getD, take, drop, drop-of-length-le}
 use lib.Seq.{drop-cons, getD-take, length-take-le}
-use Rattle.model.specs.Reader.{twice}
+use Rattle.document.specs.Reader.{twice}
 use Rattle.model.specs.Sets.{anyOf, memb}
 
 module _ (r : List ℕ) (n : ℕ) (fits : n ≤ length r) where

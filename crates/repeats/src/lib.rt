@@ -2,7 +2,7 @@
 ghost use mathlib.Core.Path.{_≡_};
 ghost use Prim.Native.Nat.{_≤_};
 ghost use lib.ListN.{take, drop};
-ghost use Rattle.model.specs.Reader.{twice};
+ghost use Rattle.document.specs.Reader.{twice};
 ghost use Rattle.model.specs.Sets.{memb};
 ghost use Rattle.repeats.specs.Seen.{SeenFrom};
 use model::Flow;

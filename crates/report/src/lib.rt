@@ -4,7 +4,7 @@ ghost use mathlib.Core.List.{[]};
 ghost use Prim.Native.Nat.{ℕ, _+_, _≤_};
 ghost use lib.ListN.{getD, length};
 ghost use Rattle.model.specs.Sets.{filterTo};
-ghost use Rattle.model.specs.Machine.{filled, noDelivery};
+ghost use Rattle.document.specs.Machine.{filled, noDelivery};
 ghost use Rattle.machinery.specs.Lists.{Through};
 ghost use Rattle.machinery.specs.Answers.{deliveredBy, deliveriesBy, droppedBy, Delayed};
 use due::delay_of;

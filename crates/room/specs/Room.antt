@@ -13,7 +13,7 @@ use Rattle.model.specs.declared.kinds.FlowSet.{FlowSet}
 use Rattle.model.specs.declared.answers.Written.{Written}
 use Rattle.model.specs.declared.answers.Refusal.the-variants.{NoRoom}
 use Rattle.model.specs.Refusals.{faultAt, noFault}
-use Rattle.model.specs.Reader.{textOf}
+use Rattle.document.specs.Reader.{textOf}
 use Rattle.decimals.specs.Stored.{sets-out}
 use Rattle.puts.specs.Stores.{lastPlace, Put}
 

@@ -2,7 +2,7 @@
 ghost use mathlib.Core.Path.{_≡_};
 ghost use Prim.Native.Nat.{_-_, min};
 ghost use lib.ListN.{length};
-ghost use Rattle.model.specs.Reader.{textOf};
+ghost use Rattle.document.specs.Reader.{textOf};
 ghost use Rattle.model.specs.Sets.{used};
 ghost use Rattle.puts.specs.Stores.{lastPlace};
 ghost use Rattle.room.specs.Room.{roomAnswer, roomInto};

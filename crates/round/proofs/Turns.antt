@@ -11,8 +11,8 @@ use lib.ListN.{length, getD, set, length-set}
 use lib.Seq.{ext-getD, getD-set-same, getD-set-other}
 use Rattle.model.specs.declared.kinds.FlowSet.{FlowSet}
 use Rattle.model.specs.Limits.{mostFlows}
-use Rattle.model.specs.Text.{same}
-use Rattle.model.specs.Delay.{valueAt, lowered, roundTo}
+use Rattle.document.specs.Text.{same}
+use Rattle.document.specs.Delay.{valueAt, lowered, roundTo}
 use Rattle.greatest.specs.Values.{list-length, list-entry}
 use Rattle.greatest.specs.Rounds.{same-eq, same-refl}
 use Rattle.tables.specs.Tables.{Tables}

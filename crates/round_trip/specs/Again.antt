@@ -19,8 +19,8 @@ use Rattle.model.specs.declared.answers.Refusal.the-variants.{BadForm}
 use Rattle.model.specs.Limits.{mostFlows, mostNodes}
 use Rattle.model.specs.Refusals.{refusalNumber, good, noFault}
 use Rattle.model.specs.Sets.{noFlow, blankFlow, blankSet, flowAt, exact, used, SameSet}
-use Rattle.model.specs.Reader.{mapFault, flowFault, recordFlowFault, flowsFault, recordFault, pad, flowOf, withFlow, firstLineFault, flowLineFault, refusedReading, accepted, readFlows, setOf, readLines, readText, flowNumbers, flowLines, textOf}
-use Rattle.model.specs.Text.{setWord, flowWord, onto, lines, wellFormed, numbersOf, decimal, lineOf}
+use Rattle.document.specs.Reader.{mapFault, flowFault, recordFlowFault, flowsFault, recordFault, pad, flowOf, withFlow, firstLineFault, flowLineFault, refusedReading, accepted, readFlows, setOf, readLines, readText, flowNumbers, flowLines, textOf}
+use Rattle.document.specs.Text.{setWord, flowWord, onto, lines, wellFormed, numbersOf, decimal, lineOf}
 use Rattle.laws.specs.Accepted.{GoodFlow, good-flow, good-flows, or-else-good}
 use Rattle.laws.specs.Sums.{and-l, and-r, and-i}
 use Rattle.digits.specs.Places.{line, after}

@@ -7,7 +7,7 @@ use native.Mathlib.Omega.{arith}
 use lib.Dec.{leb, ltb, eqb}
 use lib.ListN.{length, getD, length-append}
 use borrow.Author.Tests.{ne-eqb, eq-eqb, eqb-true, leb-true, not-true}
-use Rattle.model.specs.Text.{setWord, flowWord, same, onto, lines, ended, fields, firstOf, othersOf, isDigit, allDigits, plain, isNumber, allNumbers, valuesOf, valueOf, wellFormed, numbersOf, decimal, tabbed, decimals, lineOf}
+use Rattle.document.specs.Text.{setWord, flowWord, same, onto, lines, ended, fields, firstOf, othersOf, isDigit, allDigits, plain, isNumber, allNumbers, valuesOf, valueOf, wellFormed, numbersOf, decimal, tabbed, decimals, lineOf}
 use Rattle.laws.specs.Sums.{and-l, and-r, and-i}
 use Rattle.digits.specs.Places.{first, more, line, after}
 use Rattle.numerals.specs.Fields.{Sep, is-tab, is-lf, within, sep, fields-parts, fields-within, first-within, more-within, ended-within, lines-line}

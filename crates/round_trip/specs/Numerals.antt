@@ -8,7 +8,7 @@ use native.Mathlib.Omega.{arith}
 use lib.Dec.{leb, ltb, eqb}
 use lib.ListN.{length, length-append}
 use borrow.Author.Tests.{ne-eqb, le-leb, lt-ltb, leb-true, ltb-true, eqb-false, not-true}
-use Rattle.model.specs.Text.{zeroDigit, isDigit, allDigits, plain, valueFrom, valueOf, isNumber, decimal}
+use Rattle.document.specs.Text.{zeroDigit, isDigit, allDigits, plain, valueFrom, valueOf, isNumber, decimal}
 use Rattle.laws.specs.Sums.{and-l, and-r, and-i}
 use Rattle.numerals.specs.Digits.{value-grows, good-number}
 use Rattle.decimals.specs.Decimals.{tenDigits, top, decimal-one, decimal-more, decimal-size, digits-least}

@@ -11,8 +11,8 @@ use Rattle.model.specs.declared.kinds.FlowSet.{FlowSet}
 use Rattle.model.specs.Limits.{mostFlows}
 use Rattle.model.specs.Refusals.{good}
 use Rattle.model.specs.Sets.{noFlow, used, anyOf, SameSet}
-use Rattle.model.specs.Reader.{twice, flowFault, flowsFault, recordFault, flowNumbers, flowLines, readText, textOf}
-use Rattle.model.specs.Text.{decimalIn, decimal, tabbed, decimals, lineOf}
+use Rattle.document.specs.Reader.{twice, flowFault, flowsFault, recordFault, flowNumbers, flowLines, readText, textOf}
+use Rattle.document.specs.Text.{decimalIn, decimal, tabbed, decimals, lineOf}
 use Rattle.round_trip.specs.Again.{longestText, read-written, read-length}
 use Rattle.round_trip.specs.Lines.{small}
 use Rattle.round_trip.specs.Written.{Stored, written-read}

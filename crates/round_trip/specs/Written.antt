@@ -19,8 +19,8 @@ use Rattle.model.specs.declared.answers.Refusal.{Refusal}
 use Rattle.model.specs.Limits.{mostFlows, mostNodes}
 use Rattle.model.specs.Refusals.{good, faultAt}
 use Rattle.model.specs.Sets.{noFlow, blankFlow, flowAt, exact, used, SameSet}
-use Rattle.model.specs.Reader.{mapFault, flowFault, recordFlowFault, flowsFault, recordFault, pad, flowOf, withFlow, firstLineFault, flowLineFault, accepted, readFlows, setOf, readLines, readText, flowNumbers, flowLines, textOf}
-use Rattle.model.specs.Text.{setWord, flowWord, lines, wellFormed, numbersOf, lineOf}
+use Rattle.document.specs.Reader.{mapFault, flowFault, recordFlowFault, flowsFault, recordFault, pad, flowOf, withFlow, firstLineFault, flowLineFault, accepted, readFlows, setOf, readLines, readText, flowNumbers, flowLines, textOf}
+use Rattle.document.specs.Text.{setWord, flowWord, lines, wellFormed, numbersOf, lineOf}
 use Rattle.laws.specs.Accepted.{Accepted, good-flow, good-flows, or-else-good, accepted as accepted-set}
 use Rattle.laws.specs.Sums.{and-l, and-r}
 use Rattle.laws.specs.Used.{used-flow, used-count, used-map}

@@ -13,8 +13,8 @@ use Rattle.model.specs.declared.answers.Reading.{Reading}
 use Rattle.model.specs.Limits.{mostFlows, mostNodes}
 use Rattle.model.specs.Refusals.{good}
 use Rattle.model.specs.Sets.{noFlow, blankFlow, blankSet, flowAt}
-use Rattle.model.specs.Reader.{pad, flowOf, withFlow, firstLineFault, flowLineFault, readFlows, setOf, readLines, readText}
-use Rattle.model.specs.Text.{lines, numbersOf}
+use Rattle.document.specs.Reader.{pad, flowOf, withFlow, firstLineFault, flowLineFault, readFlows, setOf, readLines, readText}
+use Rattle.document.specs.Text.{lines, numbersOf}
 use Rattle.row_rules.specs.Pads.{pad-at, pad-length}
 use Rattle.flow_lines.specs.Judging.{read-good, read-bad, good-line}
 use Rattle.reader.specs.First.{first-good, first-bad}

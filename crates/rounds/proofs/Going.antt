@@ -9,9 +9,9 @@ use lib.ListN.{getD, replicate}
 use lib.Seq.{ext-getD}
 use Rattle.model.specs.declared.kinds.FlowSet.{FlowSet}
 use Rattle.model.specs.Limits.{mostFlows}
-use Rattle.model.specs.Text.{same}
+use Rattle.document.specs.Text.{same}
 use Rattle.model.specs.Sets.{listTo}
-use Rattle.model.specs.Delay.{deadline, workAt, roundOf, Reached, roundsIn, mostRounds, reached, deadlines}
+use Rattle.document.specs.Delay.{deadline, workAt, roundOf, Reached, roundsIn, mostRounds, reached, deadlines}
 use Rattle.laws.specs.Sums.{sum-le, sum-const}
 use Rattle.greatest.specs.Values.{list-length, list-entry, deadlines-length, deadlines-entry}
 use Rattle.greatest.specs.Rounds.{same-eq, Between, between-deadlines, between-round, WorkFits, room-deadlines, round-falls, rounds-stop, rounds-on}

@@ -1,7 +1,7 @@
 // The rounds of document 01's tightened delay test, to the first that changes nothing.
 ghost use mathlib.Core.Path.{_≡_};
 ghost use Rattle.model.specs.Sets.{used};
-ghost use Rattle.model.specs.Delay.{reached};
+ghost use Rattle.document.specs.Delay.{reached};
 ghost use Rattle.laws.specs.Accepted.{Accepted};
 ghost use Rattle.tables.specs.Tables.{tablesOf, Tabled};
 ghost use Rattle.tables.specs.Steps.{leftOf, Below};

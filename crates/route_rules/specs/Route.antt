@@ -6,7 +6,7 @@ use lib.Dec.{ltb}
 use Rattle.model.specs.declared.answers.Refusal.{Refusal}
 use Rattle.model.specs.declared.answers.Refusal.the-variants.{Nothing, BadRoute, NodeTwice, TooMuchWork}
 use Rattle.model.specs.Limits.{mostNodes}
-use Rattle.model.specs.Reader.{twice}
+use Rattle.document.specs.Reader.{twice}
 
 -- rules 7, 8 and 9
 unfoldable pub routeFault : ℕ → ℕ → ℕ → List ℕ → Refusal

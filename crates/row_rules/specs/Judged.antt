@@ -8,7 +8,7 @@ use Rattle.model.specs.declared.kinds.Flow.{Flow}
 use Rattle.model.specs.declared.answers.Refusal.{Refusal}
 use Rattle.model.specs.declared.answers.Refusal.the-variants.{BadForm}
 use Rattle.model.specs.Limits.{mostNodes}
-use Rattle.model.specs.Reader.{flowFault, pad}
+use Rattle.document.specs.Reader.{flowFault, pad}
 use Rattle.lines.specs.declared.reading.Row.{Row}
 
 -- the number at this place of a row

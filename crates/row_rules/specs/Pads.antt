@@ -7,7 +7,7 @@ use native.Mathlib.Numerals.{add-one}
 use native.Mathlib.Omega.{arith}
 use lib.ListN.{length, getD, take, drop, set, replicate, length-append, length-take, length-set, length-replicate}
 use lib.Seq.{getD-take, getD-drop, ext-getD, getD-set-same, getD-set-other, take-take, take-append-seam}
-use Rattle.model.specs.Reader.{pad}
+use Rattle.document.specs.Reader.{pad}
 
 zeros-at : (m i : ℕ) → _≡_ {A = ℕ} (getD (replicate m 0) i 0) 0
 zeros-at zero i = refl

@@ -11,7 +11,7 @@ use Rattle.model.specs.declared.answers.Refusal.the-variants.{TooManyFlows}
 use Rattle.model.specs.Limits.{mostFlows}
 use Rattle.model.specs.Refusals.{refusalNumber, faultAt, noFault}
 use Rattle.model.specs.Sets.{flowAt, exact, used}
-use Rattle.model.specs.Reader.{mapFault, flowFault, recordFlowFault, flowsFault, recordFault}
+use Rattle.document.specs.Reader.{mapFault, flowFault, recordFlowFault, flowsFault, recordFault}
 use Rattle.laws.specs.Used.{used-flow}
 
 module _ (s : FlowSet) (k : ℕ) (below : k < s .count) where

@@ -1,6 +1,6 @@
 // The record check: document 01's rules 2 to 9 of a set that is handed over as a record, line by line as its text would be judged.
 ghost use mathlib.Core.Path.{_≡_};
-ghost use Rattle.model.specs.Reader.{flowsFault, recordFlowFault, recordFault};
+ghost use Rattle.document.specs.Reader.{flowsFault, recordFlowFault, recordFault};
 ghost use Rattle.model.specs.Sets.{exact, used};
 use flow_rules::flow_fault;
 use flow_rules::map_fault;

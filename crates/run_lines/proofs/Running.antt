@@ -12,9 +12,9 @@ use Rattle.model.specs.declared.answers.Stepped.{Stepped}
 use Rattle.model.specs.Limits.{lastSlot}
 use Rattle.model.specs.Refusals.{good, noFault}
 use Rattle.model.specs.Sets.{used}
-use Rattle.model.specs.Reader.{recordFault}
-use Rattle.model.specs.Machine.{stepOf, stepIf, runOf}
-use Rattle.model.specs.Program.{runLines, sendLines}
+use Rattle.document.specs.Reader.{recordFault}
+use Rattle.document.specs.Machine.{stepOf, stepIf, runOf}
+use Rattle.document.specs.Program.{runLines, sendLines}
 use Rattle.machinery.specs.States.{good-not-bad, step-good, run-next, run-good}
 use Rattle.machinery.specs.Steps.{lines-of}
 

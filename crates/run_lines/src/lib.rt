@@ -2,8 +2,8 @@
 ghost use mathlib.Core.Path.{_≡_};
 ghost use Rattle.model.specs.Refusals.{noFault};
 ghost use Rattle.model.specs.Sets.{used};
-ghost use Rattle.model.specs.Reader.{recordFault};
-ghost use Rattle.model.specs.Program.{runLines};
+ghost use Rattle.document.specs.Reader.{recordFault};
+ghost use Rattle.document.specs.Program.{runLines};
 ghost use Rattle.puts.specs.Stores.{Put};
 use model::FlowSet;
 use model::State;

@@ -2,7 +2,7 @@
 ghost use mathlib.Core.Path.{_≡_};
 ghost use Prim.Native.Nat.{ℕ, _/_, _≤_, _<_};
 ghost use lib.ListN.{getD, length, take};
-ghost use Rattle.model.specs.Machine.{filled, noSend};
+ghost use Rattle.document.specs.Machine.{filled, noSend};
 ghost use Rattle.machinery.specs.Answers.{sendIn, sendsOf};
 use channel::radio_channel;
 use clash::ends_of;

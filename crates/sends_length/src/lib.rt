@@ -1,7 +1,7 @@
 // How long the lines of a slot's sends are.
 ghost use mathlib.Core.Path.{_≡_};
 ghost use lib.ListN.{length, take};
-ghost use Rattle.model.specs.Program.{sendLines};
+ghost use Rattle.document.specs.Program.{sendLines};
 use model::ChannelMap;
 use model::Send;
 use printing::put_sends;

@@ -11,8 +11,8 @@ use Rattle.model.specs.declared.kinds.Flow.{Flow}
 use Rattle.model.specs.declared.kinds.FlowSet.{FlowSet}
 use Rattle.model.specs.Limits.{mostFlows, mostNodes}
 use Rattle.model.specs.Sets.{noFlow, flowAt, exact, used}
-use Rattle.model.specs.Reader.{flowNumbers, flowLines, textOf}
-use Rattle.model.specs.Text.{setWord, flowWord, lineOf}
+use Rattle.document.specs.Reader.{flowNumbers, flowLines, textOf}
+use Rattle.document.specs.Text.{setWord, flowWord, lineOf}
 use Rattle.laws.specs.Used.{used-flow}
 
 -- the numbers of a flow's line are those of its route's used nodes

@@ -1,9 +1,9 @@
 // The lines of a set's text, put into a buffer as far as it goes.
 ghost use mathlib.Core.Path.{_≡_};
 ghost use Prim.Native.Nat.{_+_, _≤_, min};
-ghost use Rattle.model.specs.Reader.{flowLines, flowNumbers, textOf};
+ghost use Rattle.document.specs.Reader.{flowLines, flowNumbers, textOf};
 ghost use Rattle.model.specs.Sets.{exact, used};
-ghost use Rattle.model.specs.Text.{flowWord, lineOf};
+ghost use Rattle.document.specs.Text.{flowWord, lineOf};
 ghost use Rattle.puts.specs.Stores.{Put};
 use flow_numbers::flow_numbers;
 use model::Flow;

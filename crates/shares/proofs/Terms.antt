@@ -12,7 +12,7 @@ use lib.ListN.{getD, set, replicate, length-replicate}
 use Rattle.model.specs.declared.kinds.FlowSet.{FlowSet}
 use Rattle.model.specs.Limits.{mostFlows}
 use Rattle.model.specs.Sets.{flowAt}
-use Rattle.model.specs.Delay.{workAt, wholePackets, overOthers}
+use Rattle.document.specs.Delay.{workAt, wholePackets, overOthers}
 use Rattle.laws.specs.Accepted.{Accepted}
 use Rattle.laws.specs.Sums.{sum-ext}
 use Rattle.greatest.specs.Values.{conflict-le-work}

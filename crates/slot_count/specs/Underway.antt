@@ -9,7 +9,7 @@ use lib.ListN.{getD, length, replicate}
 use Rattle.model.specs.declared.kinds.FlowSet.{FlowSet}
 use Rattle.model.specs.declared.answers.Fault.{Fault}
 use Rattle.model.specs.Limits.{lastSlot}
-use Rattle.model.specs.Reader.{recordFault}
+use Rattle.document.specs.Reader.{recordFault}
 use Rattle.model.specs.Sets.{used}
 use Rattle.machinery.specs.Lists.{Through, getD-zeros}
 use Rattle.machinery.specs.Dues.{dueIn}

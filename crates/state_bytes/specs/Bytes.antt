@@ -9,7 +9,7 @@ use lib.Dec.{eqb}
 use lib.ListN.{getD, length}
 use Rattle.model.specs.declared.kinds.State.{State}
 use Rattle.model.specs.Sets.{freshState}
-use Rattle.model.specs.Program.{stateLength, stateOf, stateBytes}
+use Rattle.document.specs.Program.{stateLength, stateOf, stateBytes}
 
 -- the slot in four bytes, lowest first
 abbrev pub slotOf : List ℕ → ℕ

@@ -3,7 +3,7 @@ ghost use mathlib.Core.Path.{_≡_};
 ghost use lib.ListN.{length, drop, take};
 ghost use Prim.Native.Nat.{_+_, _*_, _<_};
 ghost use mathlib.Core.List.{_++_};
-ghost use Rattle.model.specs.Program.{stateOf, stateBytes, stateLength};
+ghost use Rattle.document.specs.Program.{stateOf, stateBytes, stateLength};
 ghost use Rattle.slot_bytes.specs.Bytes.{slotBytes};
 ghost use Rattle.state_bytes.specs.Bytes.{slotOf, stateIn, withState};
 use model::Flow;

@@ -13,7 +13,7 @@ use Rattle.model.specs.declared.kinds.FlowSet.{FlowSet}
 use Rattle.model.specs.Limits.{mostFlows}
 use Rattle.model.specs.Sums.{sumTo}
 use Rattle.model.specs.Sets.{flowAt}
-use Rattle.model.specs.Delay.{ways, deadline, workAt, conflictWork, wholePackets, remainder, share, wholeShare, conflictShare, overOthers, joined, boundWith, tightened, valueAt}
+use Rattle.document.specs.Delay.{ways, deadline, workAt, conflictWork, wholePackets, remainder, share, wholeShare, conflictShare, overOthers, joined, boundWith, tightened, valueAt}
 use Rattle.laws.specs.Sums.{sum-ext, sum-add, sum-cut}
 use Rattle.greatest.specs.Values.{sums-le, others-le, bound-ext, conflict-le-work}
 use Rattle.grid.specs.Grid.{pairAt, ofOther, conflictOf}

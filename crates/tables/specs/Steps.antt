@@ -6,8 +6,8 @@ use Prim.Native.Nat.{ℕ, _+_, _-_, _≤_, _<_}
 use lib.ListN.{getD}
 use Rattle.model.specs.declared.kinds.FlowSet.{FlowSet}
 use Rattle.model.specs.Sets.{listTo}
-use Rattle.model.specs.Text.{same}
-use Rattle.model.specs.Delay.{ways, basicBound, roundOf, roundsIn, mostRounds, reached, tightBound}
+use Rattle.document.specs.Text.{same}
+use Rattle.document.specs.Delay.{ways, basicBound, roundOf, roundsIn, mostRounds, reached, tightBound}
 use Rattle.grid.specs.Grid.{FilledTo}
 use Rattle.greatest.specs.Rounds.{Between, room}
 use Rattle.tables.specs.Tables.{Tables, Tabled}

@@ -5,7 +5,7 @@ use Prim.Native.Nat.{ℕ, _+_, _-_, _≤_, _<_, min}
 use lib.ListN.{getD}
 use Rattle.model.specs.Limits.{mostFlows}
 use Rattle.model.specs.Sums.{sumTo}
-use Rattle.model.specs.Delay.{joined}
+use Rattle.document.specs.Delay.{joined}
 use Rattle.grid.specs.Grid.{pairAt}
 use Rattle.tables.specs.Tables.{Tables}
 use Rattle.tables.specs.Rows.{SmallRow}

@@ -1,7 +1,7 @@
 // The `verdict` line.
 ghost use mathlib.Core.Path.{_≡_};
 ghost use Rattle.model.specs.Sums.{bit};
-ghost use Rattle.model.specs.Program.{verdictLine};
+ghost use Rattle.document.specs.Program.{verdictLine};
 ghost use Rattle.puts.specs.Stores.{Put};
 use model::Verdict;
 

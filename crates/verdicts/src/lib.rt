@@ -4,7 +4,7 @@ ghost use mathlib.Core.Bool.{_&&_};
 ghost use Prim.Native.Nat.{_≤_};
 ghost use lib.ListN.{getD};
 ghost use Rattle.model.specs.Sets.{used};
-ghost use Rattle.model.specs.Delay.{admits, verdictOf};
+ghost use Rattle.document.specs.Delay.{admits, verdictOf};
 ghost use Rattle.bounds.specs.Answers.{AllBoundsOf};
 use bounds::AllBounds;
 use model::Flow;

@@ -11,7 +11,7 @@ use Rattle.model.specs.declared.answers.Fault.{Fault}
 use Rattle.model.specs.declared.answers.Written.{Written}
 use Rattle.model.specs.declared.answers.Refusal.the-variants.{NoRoom}
 use Rattle.model.specs.Refusals.{refusalNumber, good, faultAt, noFault}
-use Rattle.model.specs.Reader.{recordFault, textOf, writeFault, writeAnswer, writeInto}
+use Rattle.document.specs.Reader.{recordFault, textOf, writeFault, writeAnswer, writeInto}
 use Rattle.room.specs.Room.{answerIf, roomAnswer, roomInto}
 
 -- an answer, with the buffer as it leaves it

@@ -1,7 +1,7 @@
 // The writer: the record check first, then the buffer's room, then the text and nothing else.
 ghost use mathlib.Core.Path.{_≡_};
 ghost use lib.ListN.{length};
-ghost use Rattle.model.specs.Reader.{writeAnswer, writeInto};
+ghost use Rattle.document.specs.Reader.{writeAnswer, writeInto};
 ghost use Rattle.model.specs.Sets.{used};
 use model::FlowSet;
 use model::Written;

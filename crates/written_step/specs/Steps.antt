@@ -9,7 +9,7 @@ use Rattle.model.specs.declared.answers.Written.{Written}
 use Rattle.model.specs.declared.answers.Stepped.{Stepped}
 use Rattle.model.specs.declared.answers.Refusal.the-variants.{NoRoom}
 use Rattle.model.specs.Refusals.{good, faultAt, noFault, orElse}
-use Rattle.model.specs.Program.{sendLines}
+use Rattle.document.specs.Program.{sendLines}
 use Rattle.state_bytes.specs.Bytes.{withState}
 
 abbrev pub written : ℕ → Written

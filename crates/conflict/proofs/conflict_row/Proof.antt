@@ -4,8 +4,8 @@ use mathlib.Core.List.{List}
 use Prim.Native.Nat.{ℕ, _*_, _-_, _≤_, _<_}
 use native.Mathlib.Omega.{arith}
 use lib.ListN.{length, take}
-use Rattle.model.specs.Sets.{flowAt, used}
-use Rattle.model.specs.Delay.{links, conflictWork}
+use Rattle.model.specs.Sets.{flowAt, used, links}
+use Rattle.document.specs.Delay.{conflictWork}
 use Rattle.laws.specs.Used.{used-flow}
 use Rattle.marks.specs.Marks.{endsOn}
 use Rattle.grid.specs.Grid.{RowDone, conflictOf}

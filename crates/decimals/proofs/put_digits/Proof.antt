@@ -4,7 +4,7 @@ use mathlib.Core.Path.{_≡_, refl, sym}
 use Prim.Native.Nat.{_≤_}
 use native.Mathlib.Omega.{arith}
 use lib.ListN.{length}
-use Rattle.model.specs.Text.{decimal}
+use Rattle.document.specs.Text.{decimal}
 use Rattle.decimals.specs.Stored.{sets-out, Digits, digits-start, digits-left, digits-more, digits-done}
 use borrow.Author.Needs.{needs}
 use Rattle.decimals.proofs.put_digits.Statement.{statement}

@@ -2,7 +2,7 @@
 use mathlib.Core.Path.{_≡_}
 use mathlib.Core.Bool.{true}
 use Rattle.model.specs.Refusals.{good}
-use Rattle.model.specs.Reader.{recordFault}
+use Rattle.document.specs.Reader.{recordFault}
 use Rattle.model.specs.Sets.{used}
 use Rattle.grid.proofs.Checked.{number-zero, number-other}
 use Rattle.delay.proofs.Results.{all-refused, all-given}

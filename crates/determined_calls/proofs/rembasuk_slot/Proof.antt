@@ -2,8 +2,8 @@ use mathlib.Core.Path.{_∙_, ap₂, sym}
 use mathlib.Core.List.{List}
 use Prim.Native.Nat.{ℕ}
 use lib.ListN.{length}
-use Rattle.model.specs.Program.{slotState, slotBuffer}
-use Rattle.model.specs.Reader.{readText}
+use Rattle.document.specs.Program.{slotState, slotBuffer}
+use Rattle.document.specs.Reader.{readText}
 use Rattle.planner.specs.ForC.{slotForC}
 use Prim.{tt}
 use Rattle.determined_calls.proofs.rembasuk_slot.Statement.{statement}

@@ -2,7 +2,7 @@ use mathlib.Core.Path.{_∙_, ap, sym}
 use mathlib.Core.List.{List}
 use Prim.Native.Nat.{ℕ}
 use lib.Seq.{sets}
-use Rattle.model.specs.Text.{decimal}
+use Rattle.document.specs.Text.{decimal}
 use Prim.{tt}
 use Rattle.determined_puts.proofs.put_digits.Statement.{statement}
 use Rattle.determined_puts.proofs.put_digits.Tie as tie

@@ -2,7 +2,7 @@ use mathlib.Core.Path.{_∙_, ap, sym}
 use mathlib.Core.List.{List}
 use Prim.Native.Nat.{ℕ}
 use lib.ListN.{length}
-use Rattle.model.specs.Reader.{writeAnswer, writeInto}
+use Rattle.document.specs.Reader.{writeAnswer, writeInto}
 use Rattle.model.specs.Sets.{used}
 use Prim.{tt}
 use Rattle.determined_text.proofs.write.Statement.{statement}

@@ -5,8 +5,7 @@ use native.Mathlib.Nat.{lt-of-le-of-lt, le-trans, le-of-eq}
 use native.Mathlib.Omega.{arith}
 use lib.Dec.{lit<}
 use Rattle.model.specs.declared.kinds.Flow.{Flow}
-use Rattle.model.specs.Sets.{used}
-use Rattle.model.specs.Delay.{work}
+use Rattle.model.specs.Sets.{used, work}
 use Rattle.laws.specs.Used.{used-flow}
 use Rattle.grid.proofs.Checked.{good-at, count-at, work-small}
 use Rattle.division.specs.Divided.{NumbersTo}

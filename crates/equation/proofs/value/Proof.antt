@@ -2,7 +2,7 @@
 use mathlib.Core.Path.{ap₂, _∙_}
 use Prim.Native.Nat.{ℕ, _+_}
 use lib.ListN.{getD}
-use Rattle.model.specs.Delay.{joined}
+use Rattle.document.specs.Delay.{joined}
 use Rattle.tables.specs.Sums.{tableValue}
 use borrow.Author.Needs.{needs}
 use Rattle.equation.proofs.value.Statement.{statement}

@@ -6,8 +6,7 @@ use native.Mathlib.Omega.{arith}
 use mir.Syntax.{w32}
 use mir.ValLaws.{toZ-ofZ}
 use Rattle.model.specs.declared.kinds.Flow.{Flow}
-use Rattle.model.specs.Sets.{used}
-use Rattle.model.specs.Delay.{work}
+use Rattle.model.specs.Sets.{used, work}
 use Rattle.laws.specs.Accepted.{accepted}
 use Rattle.laws.specs.Used.{used-flow}
 use Rattle.grid.proofs.Checked.{count-at}

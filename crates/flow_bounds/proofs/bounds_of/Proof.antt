@@ -2,7 +2,7 @@
 use mathlib.Core.Path.{_≡_, refl, sym, ap, _∙_}
 use mathlib.Core.Bool.{true}
 use Rattle.model.specs.Refusals.{good}
-use Rattle.model.specs.Reader.{recordFault}
+use Rattle.document.specs.Reader.{recordFault}
 use Rattle.model.specs.Sets.{used}
 use Rattle.bounds.proofs.Answers.{bounds-refused, bounds-none, bounds-given}
 use Rattle.bounds.proofs.Parts.{passed-by, refused-by, fault-refused}

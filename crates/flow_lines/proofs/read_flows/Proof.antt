@@ -4,9 +4,9 @@ use mathlib.Core.Path.{_≡_, sym, _∙_}
 use Prim.Native.Nat.{_-_}
 use native.Mathlib.Omega.{arith}
 use lib.ListN.{length, drop}
-use Rattle.model.specs.Reader.{readFlows}
+use Rattle.document.specs.Reader.{readFlows}
 use Rattle.model.specs.Sets.{blankSet}
-use Rattle.model.specs.Text.{lines}
+use Rattle.document.specs.Text.{lines}
 use Rattle.flow_lines.specs.Judged.{setWith}
 use Rattle.flow_lines.specs.Judging.{Lines, lines-start, lines-done, lines-refused, lines-good, lines-on, lines-more}
 use borrow.Author.Needs.{needs}

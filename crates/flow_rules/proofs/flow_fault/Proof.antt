@@ -1,7 +1,7 @@
 -- `flow_fault` is rules 3 to 9 in their order: each return is the first test of the chain that passes, the last the rules from 6 on. Assumes nothing.
 use borrow.Author.Needs.{needs}
 use borrow.Author.Tests.{eq-eqb, ne-eqb, lt-ltb, le-ltb, le-leb, lt-leb}
-use Rattle.model.specs.Reader.{flowFault}
+use Rattle.document.specs.Reader.{flowFault}
 use Rattle.route_rules.specs.Route.{routeFault}
 use Rattle.tries_rules.specs.Tries.{triesFault}
 use Rattle.flow_rules.proofs.flow_fault.Statement.{statement}

@@ -4,7 +4,7 @@ use Prim.Native.Nat.{ℕ, _+_, _-_, _≤_, _<_}
 use native.Mathlib.Nat.{le-trans, le-of-eq}
 use native.Mathlib.Omega.{arith}
 use lib.ListN.{length, getD}
-use Rattle.model.specs.Delay.{links}
+use Rattle.model.specs.Sets.{links}
 use Rattle.index.specs.Met.{Added, Met}
 use Rattle.index.proofs.Counts.{met-next, met-small}
 use borrow.Author.Needs.{needs}

@@ -1,7 +1,7 @@
 use mathlib.Core.Path.{ap, _∙_}
 use lib.ListN.{length}
 use Rattle.model.specs.declared.answers.Reading.{Reading}
-use Rattle.model.specs.Program.{slotState, slotBuffer}
+use Rattle.document.specs.Program.{slotState, slotBuffer}
 use Rattle.planner.specs.Slots.{slotAnswer}
 use Rattle.planner.specs.ForC.{slotForC}
 use Rattle.c_numbers.specs.Numbers.{slotNumbers}

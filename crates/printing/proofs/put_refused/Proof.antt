@@ -1,8 +1,8 @@
 use mathlib.Core.Path.{ap}
 use mathlib.Core.List.{[], _∷_}
 use Prim.Native.Nat.{ℕ}
-use Rattle.model.specs.Text.{lineOf}
-use Rattle.model.specs.Program.{refusedWord}
+use Rattle.document.specs.Text.{lineOf}
+use Rattle.document.specs.Program.{refusedWord}
 use Rattle.puts.specs.Stores.{put-same}
 use borrow.Author.Needs.{needs}
 use Rattle.printing.proofs.put_refused.Statement.{statement}

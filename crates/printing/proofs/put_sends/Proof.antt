@@ -2,7 +2,7 @@ use mathlib.Core.Path.{_≡_, refl, ap, _∙_}
 use Prim.Native.Nat.{ℕ, _+_, _-_, _≤_, min}
 use native.Mathlib.Omega.{arith}
 use lib.ListN.{length, take, length-map}
-use Rattle.model.specs.Program.{sendLines}
+use Rattle.document.specs.Program.{sendLines}
 use Rattle.printing.specs.Sends.{send-more, take-min}
 use Rattle.puts.specs.Stores.{Putting, putting-start, putting-more, putting-done}
 use borrow.Author.Needs.{needs}

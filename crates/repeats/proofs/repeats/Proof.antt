@@ -5,7 +5,7 @@ use Prim.Native.Nat.{ℕ, _+_, _-_, _≤_}
 use native.Mathlib.Omega.{arith}
 use borrow.Author.Needs.{needs}
 use lib.ListN.{take, drop, length}
-use Rattle.model.specs.Reader.{twice}
+use Rattle.document.specs.Reader.{twice}
 use Rattle.repeats.specs.Seen.{SeenFrom}
 use Rattle.repeats.proofs.Nodes.{twice-here, twice-on, twice-end, twice-whole}
 use Rattle.repeats.proofs.Marks.{seen-none, seen-next}

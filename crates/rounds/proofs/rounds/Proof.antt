@@ -5,7 +5,7 @@ use mathlib.Core.List.{List}
 use Prim.Native.Nat.{ℕ, _+_, _-_, _≤_, _<_}
 use native.Mathlib.Omega.{arith}
 use Rattle.model.specs.Sets.{used}
-use Rattle.model.specs.Delay.{mostRounds}
+use Rattle.document.specs.Delay.{mostRounds}
 use Rattle.greatest.specs.Rounds.{accepted-fits}
 use Rattle.tables.proofs.Carry.{fits-carried}
 use Rattle.tables.specs.Steps.{leftOf, Below, Judges, Going}

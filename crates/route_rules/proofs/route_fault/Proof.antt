@@ -8,7 +8,7 @@ use borrow.Author.Needs.{needs}
 use borrow.Author.Tests.{lt-ltb, le-ltb}
 use lib.Dec.{lit<}
 use lib.ListN.{take}
-use Rattle.model.specs.Reader.{twice}
+use Rattle.document.specs.Reader.{twice}
 use Rattle.route_rules.specs.Route.{routeFault}
 use Rattle.route_rules.proofs.route_fault.Statement.{statement}
 use Rattle.route_rules.proofs.route_fault.Tie as tie

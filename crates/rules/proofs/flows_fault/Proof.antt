@@ -5,7 +5,7 @@ use native.Mathlib.Omega.{arith}
 use borrow.Author.Needs.{needs}
 use Rattle.model.specs.declared.answers.Refusal.the-variants.{TooManyFlows}
 use Rattle.model.specs.Sets.{used}
-use Rattle.model.specs.Reader.{flowsFault}
+use Rattle.document.specs.Reader.{flowsFault}
 use Rattle.rules.proofs.Flows.{flows-here, flows-on, flows-end, flow-fault-at, too-many}
 use Rattle.rules.proofs.flows_fault.Statement.{statement}
 use Rattle.rules.proofs.flows_fault.Tie as tie

@@ -3,8 +3,8 @@ use mathlib.Core.Path.{_≡_, refl, ap, _∙_}
 use Prim.Native.Nat.{_-_, _<_}
 use native.Mathlib.Omega.{arith}
 use Rattle.model.specs.Sets.{used}
-use Rattle.model.specs.Machine.{stepOf, runOf}
-use Rattle.model.specs.Program.{runLines}
+use Rattle.document.specs.Machine.{stepOf, runOf}
+use Rattle.document.specs.Program.{runLines}
 use Rattle.puts.specs.Stores.{Putting, putting-start, putting-more, putting-done}
 use Rattle.run_lines.proofs.Running.{run-more, run-last}
 use borrow.Author.Needs.{needs}

@@ -5,7 +5,7 @@ use mathlib.Core.List.{List}
 use native.Mathlib.Omega.{arith}
 use lib.ListN.{length, take}
 use lib.Seq.{length-take-le}
-use Rattle.model.specs.Text.{flowWord, lineOf}
+use Rattle.document.specs.Text.{flowWord, lineOf}
 use Rattle.puts.specs.Stores.{put-same}
 use Rattle.set_lines.specs.Lines.{line-numbers}
 use borrow.Author.Needs.{needs}

@@ -3,7 +3,7 @@ use mathlib.Core.Path.{_≡_, refl, sym, _∙_}
 use Prim.Native.Nat.{_-_, min}
 use native.Mathlib.Omega.{arith}
 use lib.ListN.{length, take, length-map}
-use Rattle.model.specs.Reader.{flowLines}
+use Rattle.document.specs.Reader.{flowLines}
 use Rattle.model.specs.Sets.{used}
 use Rattle.puts.specs.Stores.{Putting, putting-start, putting-more, putting-done}
 use Rattle.set_lines.specs.Lines.{flow-next, flow-all}

@@ -1,7 +1,7 @@
 -- `run_accepted` goes as far as the last slot, from where on a run stays. Assumes nothing.
 use Rattle.machinery.specs.Slots.{Prepared, prepared}
 use Rattle.machinery.specs.States.{run-cut}
-use Rattle.model.specs.Machine.{runOf}
+use Rattle.document.specs.Machine.{runOf}
 use Rattle.model.specs.Sets.{used}
 use native.Mathlib.Omega.{arith}
 use Prim.Native.Nat.{ℕ, _≤_, min}

@@ -1,6 +1,6 @@
 use mathlib.Core.Path.{ap₂}
 use Rattle.state_bytes.specs.Bytes.{stateFrom}
-use Rattle.model.specs.Program.{stateOf}
+use Rattle.document.specs.Program.{stateOf}
 use borrow.Author.Needs.{needs}
 use Rattle.state_bytes.proofs.read_state.Statement.{statement}
 use Rattle.state_bytes.proofs.read_state.Tie as tie

@@ -5,7 +5,7 @@ use native.Mathlib.Omega.{arith}
 use lib.ListN.{take, drop}
 use lib.Seq.{drop-at, length-take-le}
 use Rattle.slot_bytes.specs.Bytes.{slotBytes}
-use Rattle.model.specs.Program.{stateBytes}
+use Rattle.document.specs.Program.{stateBytes}
 use borrow.Author.Needs.{needs}
 use Rattle.state_bytes.proofs.write_state.Statement.{statement}
 use Rattle.state_bytes.proofs.write_state.Tie as tie

@@ -3,8 +3,8 @@ use Rattle.machinery.specs.Dues.{work-le-64, accepted-count, accepted-flow}
 use Rattle.machinery.specs.Links.{RoutesTo, routes-none, routes-next}
 use Rattle.machinery.specs.Lists.{Through, through-none, through-next, through-all, set-le}
 use Rattle.laws.specs.Used.{used-flow}
-use Rattle.model.specs.Delay.{work, workAt}
-use Rattle.model.specs.Sets.{flowAt, used}
+use Rattle.model.specs.Sets.{work, flowAt, used}
+use Rattle.document.specs.Delay.{workAt}
 use Rattle.model.specs.declared.kinds.Flow.{Flow}
 use Rattle.model.specs.declared.kinds.FlowSet.{FlowSet}
 use lib.ListN.{getD, length, length-set}

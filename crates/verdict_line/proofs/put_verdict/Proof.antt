@@ -1,8 +1,8 @@
 use mathlib.Core.Path.{ap₂}
 use mathlib.Core.List.{[], _∷_}
 use Prim.Native.Nat.{ℕ}
-use Rattle.model.specs.Text.{lineOf}
-use Rattle.model.specs.Program.{verdictWord}
+use Rattle.document.specs.Text.{lineOf}
+use Rattle.document.specs.Program.{verdictWord}
 use Rattle.puts.specs.Stores.{put-same}
 use borrow.Author.Needs.{needs}
 use Rattle.verdict_line.proofs.put_verdict.Statement.{statement}

@@ -8,7 +8,7 @@ use lib.ListN.{getD}
 use Rattle.model.specs.declared.kinds.Flow.{Flow}
 use Rattle.model.specs.Sums.{allTo}
 use Rattle.model.specs.Sets.{used}
-use Rattle.model.specs.Delay.{deadline, admits}
+use Rattle.document.specs.Delay.{deadline, admits}
 use Rattle.laws.specs.Used.{used-flow}
 use Rattle.bounds.proofs.Parts.{all-zero, all-next}
 use borrow.Author.Needs.{needs}

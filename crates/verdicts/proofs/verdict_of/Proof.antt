@@ -2,7 +2,7 @@
 use mathlib.Core.Path.{_≡_, refl, sym, ap, _∙_}
 use mathlib.Core.Bool.{true}
 use Rattle.model.specs.Refusals.{good}
-use Rattle.model.specs.Reader.{recordFault}
+use Rattle.document.specs.Reader.{recordFault}
 use Rattle.model.specs.Sets.{used}
 use Rattle.laws.specs.Accepted.{accepted}
 use Rattle.bounds.proofs.Parts.{verdict-made, verdict-refused, passed-by, refused-by}

@@ -1,7 +1,7 @@
 -- `run` of a refused set stays where it began; of any other it is the accepted set's. Assumes nothing.
 use Rattle.machinery.specs.States.{run-refused, run-none}
 use Rattle.model.specs.Sets.{used}
-use Rattle.model.specs.Reader.{recordFault}
+use Rattle.document.specs.Reader.{recordFault}
 use Rattle.model.specs.Refusals.{good, refusalNumber}
 use Rattle.model.specs.declared.answers.Ran.{Ran}
 use Rattle.model.specs.declared.answers.Fault.{Fault}

@@ -1,8 +1,8 @@
 -- `step` of a refused set returns the fault; of any other it is the accepted set's. Assumes nothing.
 use Rattle.machinery.specs.States.{step-refused}
-use Rattle.model.specs.Machine.{stepped}
+use Rattle.document.specs.Machine.{stepped}
 use Rattle.model.specs.Sets.{used}
-use Rattle.model.specs.Reader.{recordFault}
+use Rattle.document.specs.Reader.{recordFault}
 use Rattle.model.specs.Refusals.{good, refusalNumber}
 use Rattle.model.specs.declared.answers.Fault.{Fault}
 use borrow.Author.Tests.{eq-eqb, ne-eqb}

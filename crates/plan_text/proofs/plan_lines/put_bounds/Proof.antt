@@ -4,7 +4,7 @@ use mathlib.Core.List.{_++_}
 use Prim.Native.Nat.{_+_, _-_}
 use native.Mathlib.Omega.{arith}
 use Rattle.model.specs.Sets.{used}
-use Rattle.model.specs.Program.{boundLines}
+use Rattle.document.specs.Program.{boundLines}
 use Rattle.bound_line.specs.BoundText.{boundText}
 use Rattle.puts.specs.Stores.{Putting, putting-start, putting-more, putting-done}
 use Rattle.plan_text.proofs.Lines.{bounds-more}

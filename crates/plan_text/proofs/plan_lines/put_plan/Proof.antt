@@ -4,7 +4,7 @@ use Prim.Native.Nat.{_≤_}
 use native.Mathlib.Omega.{arith}
 use lib.ListN.{length}
 use Rattle.model.specs.Sets.{used}
-use Rattle.model.specs.Program.{planOf, verdictLine, boundLines}
+use Rattle.document.specs.Program.{planOf, verdictLine, boundLines}
 use Rattle.laws.specs.Used.{used-count}
 use Rattle.puts.specs.Stores.{put-put, put-same, lastPlace}
 use Rattle.plan_text.proofs.Lines.{plan-le}

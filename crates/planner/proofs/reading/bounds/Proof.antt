@@ -1,5 +1,5 @@
 use mathlib.Core.Path.{sym, ap, _∙_}
-use Rattle.model.specs.Delay.{boundsOf}
+use Rattle.document.specs.Delay.{boundsOf}
 use Rattle.model.specs.Sets.{used}
 use Rattle.planner.specs.ForC.{boundsOfReading}
 use Rattle.refusals.specs.Codes.{pick-good, pick-refused}

@@ -1,7 +1,7 @@
 use mathlib.Core.Path.{ap, _∙_}
 use Rattle.model.specs.declared.kinds.State.{State}
 use Rattle.model.specs.Sets.{used}
-use Rattle.model.specs.Machine.{stepOf}
+use Rattle.document.specs.Machine.{stepOf}
 use Rattle.refusals.specs.Codes.{is-good, not-good}
 use Rattle.planner.proofs.Slotting.{Early, answered-early, state-whole, step-answered}
 use borrow.Author.Needs.{needs}

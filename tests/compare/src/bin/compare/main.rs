@@ -66,7 +66,7 @@ impl Tally {
 }
 
 fn main() {
-    let seconds = std::env::args().nth(1).and_then(|s| s.parse().ok()).unwrap_or(60);
+    let seconds = std::env::args().nth(1).and_then(|s| s.parse().ok()).unwrap_or(50);
     let first: u64 = std::env::args().nth(2).and_then(|s| s.parse().ok()).unwrap_or(1);
     let end = Instant::now() + Duration::from_secs(seconds);
     let mut tally = Tally::new(first);

@@ -2,12 +2,12 @@
 use mathlib.Core.{Bool.{Bool, true, false, not, _||_, cond}, List.{List, [], _∷_, _++_}}
 use Prim.Native.Nat.{ℕ, zero, suc, _+_, _-_, _*_, _/_, _%_}
 use lib.{Dec.{leb, ltb, eqb}, IntN.{ℤ, pos, negsuc}, ListN.{length, getD, take, drop}}
 use Rattle.model.specs.declared.kinds.{FlowSet.{FlowSet}, State.{State}}
 use Rattle.model.specs.declared.answers.{Fault.{Fault}, Reading.{Reading}, Refusal.the-variants.{NoRoom, BadState}, Send.{Send}}
 use Rattle.model.specs.declared.answers.{Verdict.{Verdict}, Bounds.{Bounds}}
 use Rattle.model.specs.{Limits.{mostFlows}, Refusals.{good, refusalNumber, faultAt, noFault, orElse}, Sums.{bit}, Sets.{used}}
-use Rattle.model.specs.{Text.{decimal, decimals, lineOf, tabbed}, Reader.{readText}, Delay.{verdictOf, boundsOf}}
-use Rattle.model.specs.Machine.{sendsAt, nextState, stepFault, runOf}
+use Rattle.document.specs.{Text.{decimal, decimals, lineOf, tabbed}, Reader.{readText}, Delay.{verdictOf, boundsOf}}
+use Rattle.document.specs.Machine.{sendsAt, nextState, stepFault, runOf}
 
 -- a state is 68 bytes for C: the slot in four bytes, lowest first, then one count byte for each of 64 flows
 abbrev pub stateLength : ℕ

@@ -6,10 +6,11 @@
 use mathlib.Core.{Path.{_≡_}, Bool.{Bool, true, false, cond}, List.{List, [], _∷_, _++_}}
 use Prim.Native.Nat.{ℕ, zero, suc, _+_, _-_, _*_, _/_, _%_, _≤_, _<_, min}
 use lib.{Count.{ones}, Dec.{leb, ltb, eqb}, IntN.{pos, _-ℤ_}, ListN.{length, getD, take, drop, set}}
 use Rattle.model.specs.declared.kinds.{Flow.{Flow}, FlowSet.{FlowSet}}
 use Rattle.model.specs.declared.answers.{Fault.{Fault}, Verdict.{Verdict}, Bounds.{Bounds}, Refusal.the-variants.{NoSuchFlow}}
-use Rattle.model.specs.{Refusals.{good, faultAt, noFault, orElse}, Sums.{bit, sumTo, allTo}, Sets.{flowAt, listTo, meet}, Reader.{recordFault}}
-use Rattle.model.specs.Text.{same}
+use Rattle.model.specs.{Refusals.{good, faultAt, noFault, orElse}, Sums.{bit, sumTo, allTo}, Sets.{links, work, flowAt, listTo, meet}}
+use Rattle.document.specs.Reader.{recordFault}
+use Rattle.document.specs.Text.{same}
 
 -- m: how many bits of the channel map are ones
 abbrev pub ways : FlowSet → ℕ
@@ -20,13 +21,6 @@ period s k = flowAt s k .period .0
 
 abbrev pub deadline : FlowSet → ℕ → ℕ
 deadline s k = flowAt s k .deadline .0
-
-abbrev pub links : Flow → ℕ
-links f = f .nodes - 1
-
--- C = links × κ
-abbrev pub work : Flow → ℕ
-work f = links f * f .tries
 
 abbrev pub workAt : FlowSet → ℕ → ℕ
 workAt s k = work (flowAt s k)

@@ -4,14 +4,14 @@ use mathlib.Core.{Bool.{Bool, true, false, not, _&&_, cond}, List.{List, [], _�
 use Prim.Native.{Char.{code}, Nat.{ℕ, zero, suc, _+_}}
 use Prim.Native.String as string
 use lib.{Count.{ones, onesIn}, Dec.{eqb, T}, IntN.{ℤ, pos, negsuc}, ListN.{getD}}
 use Rattle.model.specs.declared.kinds.FlowSet.{FlowSet}
 use Rattle.model.specs.declared.answers.{Reading.{Reading}, Send.{Send}}
 use Rattle.model.specs.{Refusals.{refusalNumber}, Sums.{sumTo, anyTo, allTo}, Sets.{used, anyOf, meet, listTo, filterTo}}
-use Rattle.model.specs.Text.{same, lines, ended, fields, allDigits, valueFrom, isNumber, allNumbers, valuesOf, wellFormed, numbersOf, decimalIn, decimal, tabbed, decimals, lineOf}
-use Rattle.model.specs.Reader.{twice, flowFault, flowsFault, recordFault, flowOf, withFlow, firstLineFault, flowLineFault, readFlows, setOf, readLines, readText, flowLines, textOf}
-use Rattle.model.specs.Delay.{conflictWork, share, overOthers, boundWith, basicBound, valueAt, deadlines, lowered, roundTo, roundsIn, reached, tightBound, admits, verdictOf, boundsFault, boundsOf}
-use Rattle.model.specs.Machine.{ready, nextCount, insert, ordered, place, placedAt, channelsTo, radioChannel, sendOf, sendsFrom, sendsAt, countAfter, deliveredAt, deliveriesOf, droppedAt, nextState, badState, stepFault, stepOf, runOf}
-use Rattle.model.specs.Program.{sendNumbers, sendLines, signed, boundLines, runLines, planOf, planText}
+use Rattle.document.specs.Text.{same, lines, ended, fields, allDigits, valueFrom, isNumber, allNumbers, valuesOf, wellFormed, numbersOf, decimalIn, decimal, tabbed, decimals, lineOf}
+use Rattle.document.specs.Reader.{twice, flowFault, flowsFault, recordFault, flowOf, withFlow, firstLineFault, flowLineFault, readFlows, setOf, readLines, readText, flowLines, textOf}
+use Rattle.document.specs.Delay.{conflictWork, share, overOthers, boundWith, basicBound, valueAt, deadlines, lowered, roundTo, roundsIn, reached, tightBound, admits, verdictOf, boundsFault, boundsOf}
+use Rattle.document.specs.Machine.{ready, nextCount, insert, ordered, place, placedAt, channelsTo, radioChannel, sendOf, sendsFrom, sendsAt, countAfter, deliveredAt, deliveriesOf, droppedAt, nextState, badState, stepFault, stepOf, runOf}
+use Rattle.document.specs.Program.{sendNumbers, sendLines, signed, boundLines, runLines, planOf, planText}
 
 -- the bytes of a quoted text
 unfoldable pub bytes : string.String → List ℕ

@@ -2,11 +2,11 @@
 use mathlib.Core.{Bool.{Bool, true, false, not, _&&_, _||_, cond}, List.{List, [], _∷_, _++_}}
 use Prim.Native.Nat.{ℕ, zero, suc, _+_, _-_, _*_}
 use lib.{Dec.{leb, ltb, eqb}, ListN.{length, getD, take, drop, set, replicate}}
 use Rattle.model.specs.declared.kinds.{Flow.{Flow}, FlowSet.{FlowSet}}
 use Rattle.model.specs.declared.answers.{Fault.{Fault}, Reading.{Reading}, Written.{Written}, Refusal.{Refusal}}
 use Rattle.model.specs.declared.answers.Refusal.the-variants.{Nothing, BadForm, NoChannel, TooManyFlows, BadPeriod, BadDeadline, BadTries, BadRoute, NodeTwice, TooMuchWork, NoRoom}
 use Rattle.model.specs.{Limits.{mostFlows, mostNodes}, Refusals.{good, faultAt, noFault, orElse}, Sets.{flowAt, blankSet, memb}}
-use Rattle.model.specs.Text.{setWord, flowWord, lines, wellFormed, numbersOf, lineOf}
+use Rattle.document.specs.Text.{setWord, flowWord, lines, wellFormed, numbersOf, lineOf}
 
 -- rule 2
 abbrev pub mapFault : ℕ → Refusal

@@ -3,11 +3,12 @@
 use mathlib.Core.{Bool.{Bool, true, false, not, _&&_, _||_, cond}, List.{List, [], _∷_, _++_}}
 use Prim.Native.Nat.{ℕ, zero, suc, _+_, _-_, _*_, _/_, _%_, _^_}
 use lib.{Count.{ones}, Dec.{leb, ltb, eqb}, ListN.{length, getD, take, replicate}}
 use Rattle.model.specs.declared.kinds.{Flow.{Flow}, FlowSet.{FlowSet}, State.{State}}
 use Rattle.model.specs.declared.answers.{Fault.{Fault}, Send.{Send}, Delivery.{Delivery}, Stepped.{Stepped}, Ran.{Ran}}
 use Rattle.model.specs.declared.answers.Refusal.the-variants.{AtLastSlot, BadState}
 use Rattle.model.specs.{Limits.{firstChannel, mostChannels, mostFlows, lastSlot}, Refusals.{good, faultAt, noFault, orElse}, Sums.{bit, anyTo}}
-use Rattle.model.specs.{Sets.{flowAt, freshState, anyOf, memb, meet, listTo, filterTo}, Reader.{recordFault}, Delay.{ways, work, workAt, link}}
+use Rattle.model.specs.Sets.{work, flowAt, freshState, anyOf, memb, meet, listTo, filterTo}
+use Rattle.document.specs.{Reader.{recordFault}, Delay.{ways, workAt, link}}
 
 -- 1. packet j is released at a + j·T
 abbrev pub release : Flow → ℕ → ℕ

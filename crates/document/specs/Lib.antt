@@ -1,0 +1,6 @@
+pub mod Text
+pub mod Reader
+pub mod Delay
+pub mod Machine
+pub mod Program
+pub mod Table
