@@ -8,12 +8,12 @@ ghost use Rattle.machinery.specs.Choice.{clashEnds, OneMore};
 ghost use Rattle.machinery.specs.Dues.{readyBy};
 ghost use Rattle.machinery.specs.Links.{Busy};
 ghost use Rattle.clash.specs.Judged.{Judged};
-use ends::Ends;
-use ends::mark_ends;
-use ends::share_node;
 use model::ChannelMap;
 use model::Flow;
-use packet::is_ready;
+use packets::Ends;
+use packets::is_ready;
+use packets::mark_ends;
+use packets::share_node;
 
 // Rule 3: the link of flow k's next transmission, where its packet has had n of its C.
 pub fn ends_of(

@@ -4,7 +4,7 @@ ghost use Prim.Native.Nat.{_*_, _≤_, _<_};
 ghost use lib.ListN.{length};
 ghost use Rattle.model.specs.Sets.{used};
 ghost use Rattle.laws.specs.Accepted.{Accepted};
-ghost use Rattle.grid.specs.Grid.{conflictOf, RowsTo, RowDone};
+ghost use Rattle.tables.specs.Grid.{conflictOf, RowsTo, RowDone};
 ghost use Rattle.marks.specs.Marks.{Marked};
 use model::Flow;
 use model::FlowSet;
@@ -40,7 +40,7 @@ fn route(f: Flow) -> [u16; Flow::MOST_NODES]
 }
 
 // S of flow k and every other.
-fn conflict_row(s: FlowSet, k: usize, t: &mut [u16; grid::PAIRS])
+fn conflict_row(s: FlowSet, k: usize, t: &mut [u16; tables::PAIRS])
     requires { ⌜ Accepted (used s) ⌝ }
     requires { ⌜ (k < s .count) × (length (now t) ≡ 4096) ⌝ }
     ensures { λ r. ⌜ RowDone (conflictOf (used s) k) (s .count) k (now (t .entry)) (now (t .exit)) ⌝ }
@@ -57,14 +57,14 @@ fn conflict_row(s: FlowSet, k: usize, t: &mut [u16; grid::PAIRS])
         let links = f.links() as usize;
         t[k * Flow::MOST + l] = times(
             f.tries,
-            touches::links_touched(nodes, &mine, links, &other, &m),
+            marks::links_touched(nodes, &mine, links, &other, &m),
         );
         l += 1;
     }
 }
 
 // S of every pair, by a search of the two routes.
-pub fn search(s: FlowSet, t: &mut [u16; grid::PAIRS])
+pub fn search(s: FlowSet, t: &mut [u16; tables::PAIRS])
     requires { ⌜ Accepted (used s) × RowsTo (conflictOf (used s)) (s .count) 0 (now t) ⌝ }
     ensures { λ r. ⌜ RowsTo (conflictOf (used s)) (s .count) (s .count) (now (t .exit)) ⌝ }
 {

@@ -1,9 +1,12 @@
 // A number's decimal digits, as they are stored into a lent buffer, as far as it goes.
+// The numbers of a flow's line.
 ghost use mathlib.Core.Path.{_≡_};
-ghost use Prim.Native.Nat.{_≤_};
+ghost use Prim.Native.Nat.{_≤_, _+_};
 ghost use lib.ListN.{length, set};
 ghost use lib.Seq.{sets};
 ghost use Rattle.document.specs.Text.{decimal};
+ghost use Rattle.document.specs.Reader.{flowNumbers};
+use model::Flow;
 
 // One byte at a place, where the buffer has it.
 pub fn put_at(out: &mut [u8], at: usize, b: u8)
@@ -15,7 +18,7 @@ pub fn put_at(out: &mut [u8], at: usize, b: u8)
 }
 
 // How many digits a number has.
-pub fn width(v: u32) -> usize
+fn width(v: u32) -> usize
     ensures { λ r. ⌜ (r ≡ length (decimal v)) × (r ≤ 10) ⌝ }
 {
     let mut n = v;
@@ -25,6 +28,14 @@ pub fn width(v: u32) -> usize
         digits += 1;
     }
     digits
+}
+
+// A digit's byte: its value above that of `0`.
+fn digit(n: u32) -> u8
+    requires { ⌜ n ≤ 9 ⌝ }
+    ensures { λ r. ⌜ r ≡ 48 + n ⌝ }
+{
+    (48 + n) as u8
 }
 
 // A number's digits from a place on, the last one stored first; the answer is how many it has.
@@ -40,9 +51,36 @@ pub fn put_digits(out: &mut [u8], at: usize, v: u32) -> usize
     let mut i = end;
     while 10 <= n {
         i -= 1;
-        put_at(out, i, (48 + n % 10) as u8);
+        put_at(out, i, digit(n % 10));
         n = n / 10;
     }
-    put_at(out, at, (48 + n) as u8);
+    put_at(out, at, digit(n));
     digits
+}
+
+// A 16-bit number as a wider one.
+fn wide(n: u16) -> u32
+    ensures { λ r. ⌜ r ≡ n ⌝ }
+{
+    n as u32
+}
+
+pub type Numbers = [u32; 4 + Flow::MOST_NODES];
+
+// A flow's numbers in the order of its line, all the nodes of its array among them.
+pub fn flow_numbers(f: Flow) -> Numbers
+    ensures { λ r. ⌜ r ≡ flowNumbers f ⌝ }
+{
+    let route = f.route;
+    let mut numbers = [0u32; 4 + Flow::MOST_NODES];
+    numbers[0] = wide(f.period.0);
+    numbers[1] = wide(f.deadline.0);
+    numbers[2] = wide(f.start);
+    numbers[3] = wide(f.tries);
+    let mut i = 0usize;
+    while i < Flow::MOST_NODES {
+        numbers[4 + i] = wide(route[i]);
+        i += 1;
+    }
+    numbers
 }

@@ -16,13 +16,13 @@ use Rattle.model.specs.Refusals.{good, noFault}
 use Rattle.document.specs.Reader.{recordFault}
 use Rattle.document.specs.Delay.{ways, basicBound, reached, tightBound, boundsOf, deadlines}
 use Rattle.greatest.specs.Values.{list-entry, value-at-deadlines, deadlines-entry}
-use Rattle.grid.proofs.Fill.{zeros}
+use Rattle.tables.proofs.Fill.{zeros}
 use Rattle.tables.specs.Tables.{Tables, Tabled}
 use Rattle.tables.specs.Sums.{tableValue}
 use Rattle.tables.proofs.Carry.{value-carried}
-use Rattle.bounds.specs.Answers.{refusedBounds, AllBoundsOf}
+use Rattle.tables.specs.Answers.{refusedBounds, AllBoundsOf}
 use Rattle.tables.specs.Steps.{leftOf, Below, ValuesTo, JudgedAs}
-use Rattle.bounds.proofs.Answers.{verdict-good, verdict-bad, bounds-refused, bounds-none, bounds-given}
+use Rattle.tables.proofs.Answers.{verdict-good, verdict-bad, bounds-refused, bounds-none, bounds-given}
 
 -- the value with nothing gone is the basic bound
 pub basic-carried : (s : FlowSet) → s .count ≤ mostFlows → (t : Tables) → Tabled s t → (m : ℕ) → m ≡ ways s → (k : ℕ) → k < s .count

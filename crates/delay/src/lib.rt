@@ -1,21 +1,79 @@
+// The shares of each pair of flows in the two delay tests, as far as no round changes them: tables that are made once.
 // The two delay tests of document 01: both bounds of every flow, the verdicts of a set, and one flow's bounds.
 ghost use mathlib.Core.Path.{_≡_};
+ghost use Prim.Native.Nat.{ℕ, _≤_, _<_};
+ghost use lib.ListN.{getD};
+ghost use Rattle.model.specs.Sets.{used};
+ghost use Rattle.laws.specs.Accepted.{Accepted};
+ghost use Rattle.tables.specs.Tables.{tablesOf, blankTables, Tabled};
+ghost use Rattle.tables.specs.Rows.{SmallRow, RowsDone};
 ghost use mathlib.Core.Bool.{true};
 ghost use Rattle.model.specs.Refusals.{good, noFault};
 ghost use Rattle.document.specs.Reader.{recordFault};
-ghost use Rattle.model.specs.Sets.{used};
-ghost use Rattle.laws.specs.Accepted.{Accepted};
-ghost use Rattle.tables.specs.Tables.{tablesOf, Tabled};
-ghost use Rattle.bounds.specs.Answers.{AllBoundsOf};
+ghost use Rattle.tables.specs.Answers.{AllBoundsOf};
 ghost use Rattle.tables.specs.Steps.{JudgedAs};
 ghost use Rattle.document.specs.Delay.{verdictOf, boundsOf};
-use bounds::AllBounds;
 use model::Bounds;
 use model::Fault;
 use model::Flow;
 use model::FlowSet;
 use model::Refusal;
 use model::Verdict;
+use tables::AllBounds;
+
+// r of every pair, and the sums of q·S and q·C for every flow.
+fn rows<'a>(
+    n: usize,
+    period: &'a [u16; Flow::MOST],
+    deadline: &'a [u16; Flow::MOST],
+    conflict: &'a [u16; tables::PAIRS],
+    work: &'a [u16; Flow::MOST],
+    remainder: &mut [u16; tables::PAIRS],
+    whole_conflict: &mut [u32; Flow::MOST],
+    whole_work: &mut [u32; Flow::MOST],
+)
+    requires { ⌜ (n ≤ 64) × ((l : ℕ) → l < n → (0 < getD (now period) l 0) × (0 < getD (now deadline) l 0)) × ((k : ℕ) → SmallRow (now conflict) (now work) k) ⌝ }
+    requires { ⌜ RowsDone n 0 (now period) (now deadline) (now conflict) (now work) (now remainder) (now «whole_conflict») (now «whole_work») ⌝ }
+    ensures { λ r. ⌜ RowsDone n n (now (period .entry)) (now (deadline .entry)) (now (conflict .entry)) (now (work .entry)) (now (remainder .exit)) (now («whole_conflict» .exit)) (now («whole_work» .exit)) ⌝ }
+{
+    let mut q = [0u16; Flow::MOST];
+    let mut k: usize = 0;
+    while k < n {
+        let sums = equation::row(k, n, deadline[k], period, conflict, work, &mut q, remainder);
+        whole_conflict[k] = sums.conflict;
+        whole_work[k] = sums.work;
+        k += 1;
+    }
+}
+
+// The tables of an accepted set, in arrays that are lent blank.
+fn tabulate(
+    s: FlowSet,
+    conflict: &mut [u16; tables::PAIRS],
+    remainder: &mut [u16; tables::PAIRS],
+    work: &mut [u16; Flow::MOST],
+    deadline: &mut [u16; Flow::MOST],
+    whole_conflict: &mut [u32; Flow::MOST],
+    whole_work: &mut [u32; Flow::MOST],
+)
+    requires { ⌜ Accepted (used s) ⌝ }
+    requires { ⌜ tablesOf (now conflict) (now remainder) (now work) (now deadline) (now «whole_conflict») (now «whole_work») ≡ blankTables ⌝ }
+    ensures { λ r. ⌜ Tabled (used s) (tablesOf (now (conflict .exit)) (now (remainder .exit)) (now (work .exit)) (now (deadline .exit)) (now («whole_conflict» .exit)) (now («whole_work» .exit))) ⌝ }
+{
+    let mut period = [0u16; Flow::MOST];
+    division::numbers(s, &mut period, deadline, work);
+    meetings::conflicts(s, conflict);
+    rows(
+        s.count as usize,
+        &period,
+        deadline,
+        conflict,
+        work,
+        remainder,
+        whole_conflict,
+        whole_work,
+    );
+}
 
 // Both bounds of every flow, and the number of rounds.
 struct Judged {
@@ -27,8 +85,8 @@ struct Judged {
 // The same from the tables.
 fn judge_by<'a>(
     s: FlowSet,
-    conflict: &'a [u16; grid::PAIRS],
-    remainder: &'a [u16; grid::PAIRS],
+    conflict: &'a [u16; tables::PAIRS],
+    remainder: &'a [u16; tables::PAIRS],
     work: &'a [u16; Flow::MOST],
     deadline: &'a [u16; Flow::MOST],
     whole_conflict: &'a [u32; Flow::MOST],
@@ -39,7 +97,7 @@ fn judge_by<'a>(
 {
     let m = s.map.ways();
     let none = [0u16; Flow::MOST];
-    let basic = values::values(
+    let basic = equation::values(
         s.count as usize,
         m,
         conflict,
@@ -60,7 +118,7 @@ fn judge_by<'a>(
         whole_work,
     );
     let gone = end.gone;
-    let tightened = values::values(
+    let tightened = equation::values(
         s.count as usize,
         m,
         conflict,
@@ -83,13 +141,13 @@ fn judge(s: FlowSet) -> Judged
     requires { ⌜ good (recordFault (used s) .refusal) ≡ true ⌝ }
     ensures { λ r. ⌜ JudgedAs (used s) (r .basic) (r .tightened) (r .rounds) ⌝ }
 {
-    let mut conflict = [0u16; grid::PAIRS];
-    let mut remainder = [0u16; grid::PAIRS];
+    let mut conflict = [0u16; tables::PAIRS];
+    let mut remainder = [0u16; tables::PAIRS];
     let mut work = [0u16; Flow::MOST];
     let mut deadline = [0u16; Flow::MOST];
     let mut whole_conflict = [0u32; Flow::MOST];
     let mut whole_work = [0u32; Flow::MOST];
-    shares::tabulate(
+    tabulate(
         s,
         &mut conflict,
         &mut remainder,
@@ -157,5 +215,5 @@ pub fn bounds(s: FlowSet, k: u16) -> Bounds
     ensures { λ r. ⌜ r ≡ boundsOf (used s) k ⌝ }
 {
     let j = all_bounds(s);
-    flow_bounds::bounds_of(s, k, j)
+    verdicts::bounds_of(s, k, j)
 }

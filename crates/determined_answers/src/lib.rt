@@ -5,7 +5,6 @@ ghost use mathlib.Core.Path.{_≡_};
 use model::Bounds;
 use model::ChannelMap;
 use model::Fault;
-use model::Refusal;
 use model::Send;
 use model::Stepped;
 use model::Verdict;
@@ -24,32 +23,24 @@ pub struct TwoWritten(pub Written, pub Written);
 pub fn put_refused(x: &mut [u8], y: &mut [u8], at: usize, fault: Fault) -> TwoPlaces
     ensures { λ r. ⌜ ((now (x .entry) ≡ now (y .entry)) → ((r .0 ≡ r .1) × (now (x .exit) ≡ now (y .exit)))) ⌝ }
 {
-    let a = printing::put_refused(x, at, fault);
-    let b = printing::put_refused(y, at, fault);
+    let a = puts::put_refused(x, at, fault);
+    let b = puts::put_refused(y, at, fault);
     TwoPlaces(a, b)
 }
 
 pub fn put_verdict(x: &mut [u8], y: &mut [u8], at: usize, v: Verdict) -> TwoPlaces
     ensures { λ r. ⌜ ((now (x .entry) ≡ now (y .entry)) → ((r .0 ≡ r .1) × (now (x .exit) ≡ now (y .exit)))) ⌝ }
 {
-    let a = verdict_line::put_verdict(x, at, v);
-    let b = verdict_line::put_verdict(y, at, v);
-    TwoPlaces(a, b)
-}
-
-pub fn put_margin(x: &mut [u8], y: &mut [u8], at: usize, deadline: u32, bound: u32) -> TwoPlaces
-    ensures { λ r. ⌜ ((now (x .entry) ≡ now (y .entry)) → ((r .0 ≡ r .1) × (now (x .exit) ≡ now (y .exit)))) ⌝ }
-{
-    let a = margin_text::put_margin(x, at, deadline, bound);
-    let b = margin_text::put_margin(y, at, deadline, bound);
+    let a = answer_lines::put_verdict(x, at, v);
+    let b = answer_lines::put_verdict(y, at, v);
     TwoPlaces(a, b)
 }
 
 pub fn put_bound(x: &mut [u8], y: &mut [u8], at: usize, k: u16, b: Bounds) -> TwoPlaces
     ensures { λ r. ⌜ ((now (x .entry) ≡ now (y .entry)) → ((r .0 ≡ r .1) × (now (x .exit) ≡ now (y .exit)))) ⌝ }
 {
-    let a = bound_line::put_bound(x, at, k, b);
-    let b = bound_line::put_bound(y, at, k, b);
+    let a = answer_lines::put_bound(x, at, k, b);
+    let b = answer_lines::put_bound(y, at, k, b);
     TwoPlaces(a, b)
 }
 
@@ -62,64 +53,48 @@ pub fn put_sends(
 ) -> TwoPlaces
     ensures { λ r. ⌜ ((now (x .entry) ≡ now (y .entry)) → ((r .0 ≡ r .1) × (now (x .exit) ≡ now (y .exit)))) ⌝ }
 {
-    let a = printing::put_sends(x, at, sent, n);
-    let b = printing::put_sends(y, at, sent, n);
+    let a = puts::put_sends(x, at, sent, n);
+    let b = puts::put_sends(y, at, sent, n);
     TwoPlaces(a, b)
 }
 
 pub fn put_long(x: &mut [u8], y: &mut [u8]) -> TwoPlaces
     ensures { λ r. ⌜ ((now (x .entry) ≡ now (y .entry)) → ((r .0 ≡ r .1) × (now (x .exit) ≡ now (y .exit)))) ⌝ }
 {
-    let a = input_limit::put_long(x);
-    let b = input_limit::put_long(y);
+    let a = answer_lines::put_long(x);
+    let b = answer_lines::put_long(y);
     TwoPlaces(a, b)
 }
 
 pub fn is_long(n: usize) -> TwoTests
     ensures { λ r. ⌜ r .0 ≡ r .1 ⌝ }
 {
-    let a = input_limit::is_long(n);
-    let b = input_limit::is_long(n);
+    let a = answer_lines::is_long(n);
+    let b = answer_lines::is_long(n);
     TwoTests(a, b)
-}
-
-pub fn lines_length(sent: [Send; ChannelMap::MOST], n: u16) -> TwoPlaces
-    ensures { λ r. ⌜ r .0 ≡ r .1 ⌝ }
-{
-    let a = sends_length::lines_length(sent, n);
-    let b = sends_length::lines_length(sent, n);
-    TwoPlaces(a, b)
 }
 
 pub fn flow_number(flow: u32, count: u16) -> TwoNumbers
     ensures { λ r. ⌜ r .0 ≡ r .1 ⌝ }
 {
-    let a = c_numbers::flow_number(flow, count);
-    let b = c_numbers::flow_number(flow, count);
+    let a = answer_lines::flow_number(flow, count);
+    let b = answer_lines::flow_number(flow, count);
     TwoNumbers(a, b)
 }
 
 pub fn refused(fault: Fault) -> TwoWritten
     ensures { λ r. ⌜ r .0 ≡ r .1 ⌝ }
 {
-    let a = refusals::refused(fault);
-    let b = refusals::refused(fault);
-    TwoWritten(a, b)
-}
-
-pub fn refused_by(refusal: Refusal) -> TwoWritten
-    ensures { λ r. ⌜ r .0 ≡ r .1 ⌝ }
-{
-    let a = refusals::refused_by(refusal);
-    let b = refusals::refused_by(refusal);
+    let a = written_step::refused(fault);
+    let b = written_step::refused(fault);
     TwoWritten(a, b)
 }
 
 pub fn early(fault: Fault, n: usize) -> TwoFaults
     ensures { λ r. ⌜ r .0 ≡ r .1 ⌝ }
 {
-    let a = refusals::early(fault, n);
-    let b = refusals::early(fault, n);
+    let a = written_step::early(fault, n);
+    let b = written_step::early(fault, n);
     TwoFaults(a, b)
 }
 

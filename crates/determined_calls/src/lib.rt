@@ -1,19 +1,14 @@
 // Each contract determines its function's result: called twice on the same inputs, a function gives the same answer, and memory that
 // was lent with the same contents ends with the same contents. That is proved from the contracts alone, since nothing else is seen
-// from here. Here: what C, the plan program and the comparison call.
+// from here. Here: what C and the plan program call, and what the comparison calls of texts and plans.
 ghost use mathlib.Core.Path.{_≡_};
-use c_numbers::BoundsAnswer;
-use c_numbers::SlotAnswer;
-use c_numbers::VerdictAnswer;
+use answer_lines::BoundsAnswer;
+use answer_lines::SlotAnswer;
+use answer_lines::VerdictAnswer;
 use model::FlowSet;
-use model::State;
 use model::Written;
-use probe::ProbeBounds;
 use probe::ProbeFault;
-use probe::ProbeRan;
 use probe::ProbeReading;
-use probe::ProbeStepped;
-use probe::ProbeVerdict;
 use probe::ProbeWritten;
 
 pub struct TwoWritten(pub Written, pub Written);
@@ -29,14 +24,6 @@ pub struct TwoFault(pub ProbeFault, pub ProbeFault);
 pub struct TwoReading(pub ProbeReading, pub ProbeReading);
 
 pub struct TwoProbeWritten(pub ProbeWritten, pub ProbeWritten);
-
-pub struct TwoVerdict(pub ProbeVerdict, pub ProbeVerdict);
-
-pub struct TwoBounds(pub ProbeBounds, pub ProbeBounds);
-
-pub struct TwoStepped(pub ProbeStepped, pub ProbeStepped);
-
-pub struct TwoRan(pub ProbeRan, pub ProbeRan);
 
 pub fn plan(input: &[u8], x: &mut [u8], y: &mut [u8]) -> TwoWritten
     ensures { λ r. ⌜ ((now (x .entry) ≡ now (y .entry)) → ((r .0 ≡ r .1) × (now (x .exit) ≡ now (y .exit)))) ⌝ }
@@ -109,36 +96,4 @@ pub fn probe_plan(input: &[u8], x: &mut [u8], y: &mut [u8]) -> TwoProbeWritten
     let a = probe::probe_plan(input, x);
     let b = probe::probe_plan(input, y);
     TwoProbeWritten(a, b)
-}
-
-pub fn probe_verdict(s: FlowSet) -> TwoVerdict
-    ensures { λ r. ⌜ r .0 ≡ r .1 ⌝ }
-{
-    let a = probe::probe_verdict(s);
-    let b = probe::probe_verdict(s);
-    TwoVerdict(a, b)
-}
-
-pub fn probe_bounds(s: FlowSet, flow: u16) -> TwoBounds
-    ensures { λ r. ⌜ r .0 ≡ r .1 ⌝ }
-{
-    let a = probe::probe_bounds(s, flow);
-    let b = probe::probe_bounds(s, flow);
-    TwoBounds(a, b)
-}
-
-pub fn probe_step(s: FlowSet, st: State) -> TwoStepped
-    ensures { λ r. ⌜ r .0 ≡ r .1 ⌝ }
-{
-    let a = probe::probe_step(s, st);
-    let b = probe::probe_step(s, st);
-    TwoStepped(a, b)
-}
-
-pub fn probe_run(s: FlowSet, budget: u32) -> TwoRan
-    ensures { λ r. ⌜ r .0 ≡ r .1 ⌝ }
-{
-    let a = probe::probe_run(s, budget);
-    let b = probe::probe_run(s, budget);
-    TwoRan(a, b)
 }

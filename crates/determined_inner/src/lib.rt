@@ -9,14 +9,13 @@ ghost use Rattle.model.specs.Refusals.{good};
 ghost use Rattle.document.specs.Reader.{recordFault};
 ghost use Rattle.model.specs.Sets.{used};
 ghost use Rattle.machinery.specs.Answers.{Delayed};
-use ends::Ends;
 use model::Fault;
 use model::Flow;
 use model::FlowSet;
-use model::Ran;
 use model::Span;
 use model::State;
 use model::Stepped;
+use packets::Ends;
 
 pub struct TwoU8(pub u8, pub u8);
 
@@ -36,62 +35,52 @@ pub struct TwoFault(pub Fault, pub Fault);
 
 pub struct TwoStepped(pub Stepped, pub Stepped);
 
-pub struct TwoRan(pub Ran, pub Ran);
-
 pub fn wide(x: u16) -> TwoPlaces
     ensures { λ r. ⌜ r .0 ≡ r .1 ⌝ }
 {
-    let a = arithmetic::wide(x);
-    let b = arithmetic::wide(x);
+    let a = numbers::wide(x);
+    let b = numbers::wide(x);
     TwoPlaces(a, b)
 }
 
 pub fn bounded(x: u16) -> TwoU16
     ensures { λ r. ⌜ r .0 ≡ r .1 ⌝ }
 {
-    let a = arithmetic::bounded(x);
-    let b = arithmetic::bounded(x);
+    let a = numbers::bounded(x);
+    let b = numbers::bounded(x);
     TwoU16(a, b)
 }
 
 pub fn less(x: u16, y: u16) -> TwoU16
     ensures { λ r. ⌜ r .0 ≡ r .1 ⌝ }
 {
-    let a = arithmetic::less(x, y);
-    let b = arithmetic::less(x, y);
+    let a = numbers::less(x, y);
+    let b = numbers::less(x, y);
     TwoU16(a, b)
 }
 
 pub fn least(x: u16, y: u16) -> TwoU16
     ensures { λ r. ⌜ r .0 ≡ r .1 ⌝ }
 {
-    let a = arithmetic::least(x, y);
-    let b = arithmetic::least(x, y);
+    let a = numbers::least(x, y);
+    let b = numbers::least(x, y);
     TwoU16(a, b)
 }
 
 pub fn larger(x: u8, y: u8) -> TwoU8
     ensures { λ r. ⌜ r .0 ≡ r .1 ⌝ }
 {
-    let a = arithmetic::larger(x, y);
-    let b = arithmetic::larger(x, y);
+    let a = numbers::larger(x, y);
+    let b = numbers::larger(x, y);
     TwoU8(a, b)
 }
 
 pub fn fall(deadline: u16, value: u32) -> TwoU16
     ensures { λ r. ⌜ r .0 ≡ r .1 ⌝ }
 {
-    let a = arithmetic::fall(deadline, value);
-    let b = arithmetic::fall(deadline, value);
+    let a = numbers::fall(deadline, value);
+    let b = numbers::fall(deadline, value);
     TwoU16(a, b)
-}
-
-pub fn search_from(n: usize, m: &[u8; 256], node: u16) -> TwoPlaces
-    ensures { λ r. ⌜ r .0 ≡ r .1 ⌝ }
-{
-    let a = marks::search_from(n, m, node);
-    let b = marks::search_from(n, m, node);
-    TwoPlaces(a, b)
 }
 
 pub fn row_of(rows: &[u16; node_rows::NODES], node: u16) -> TwoPlaces
@@ -106,8 +95,8 @@ pub fn due_of(first: u32, period: u32, deadline: u32, t: u32) -> TwoU32
     requires { ⌜ (0 < period) × (first ≤ 65535) × (deadline ≤ 65535) × (t ≤ 4000000000) ⌝ }
     ensures { λ r. ⌜ r .0 ≡ r .1 ⌝ }
 {
-    let a = due::due_of(first, period, deadline, t);
-    let b = due::due_of(first, period, deadline, t);
+    let a = packets::due_of(first, period, deadline, t);
+    let b = packets::due_of(first, period, deadline, t);
     TwoU32(a, b)
 }
 
@@ -115,16 +104,16 @@ pub fn had_of(due: u32, deadline: u32, t: u32, n: u8) -> TwoU8
     requires { ⌜ (deadline ≤ 65535) × (t ≤ 4000000000) ⌝ }
     ensures { λ r. ⌜ r .0 ≡ r .1 ⌝ }
 {
-    let a = due::had_of(due, deadline, t, n);
-    let b = due::had_of(due, deadline, t, n);
+    let a = packets::had_of(due, deadline, t, n);
+    let b = packets::had_of(due, deadline, t, n);
     TwoU8(a, b)
 }
 
 pub fn is_ready(start: u32, due: u32, sent: u8, work: u8, t: u32) -> TwoBool
     ensures { λ r. ⌜ r .0 ≡ r .1 ⌝ }
 {
-    let a = packet::is_ready(start, due, sent, work, t);
-    let b = packet::is_ready(start, due, sent, work, t);
+    let a = packets::is_ready(start, due, sent, work, t);
+    let b = packets::is_ready(start, due, sent, work, t);
     TwoBool(a, b)
 }
 
@@ -132,8 +121,8 @@ pub fn is_delivered(marked: u8, sent: u8, work: u8) -> TwoBool
     requires { ⌜ sent ≤ 64 ⌝ }
     ensures { λ r. ⌜ r .0 ≡ r .1 ⌝ }
 {
-    let a = packet::is_delivered(marked, sent, work);
-    let b = packet::is_delivered(marked, sent, work);
+    let a = packets::is_delivered(marked, sent, work);
+    let b = packets::is_delivered(marked, sent, work);
     TwoBool(a, b)
 }
 
@@ -141,8 +130,8 @@ pub fn is_dropped(t: u32, start: u32, due: u32, after: u8, work: u8) -> TwoBool
     requires { ⌜ t ≤ 4000000000 ⌝ }
     ensures { λ r. ⌜ r .0 ≡ r .1 ⌝ }
 {
-    let a = packet::is_dropped(t, start, due, after, work);
-    let b = packet::is_dropped(t, start, due, after, work);
+    let a = packets::is_dropped(t, start, due, after, work);
+    let b = packets::is_dropped(t, start, due, after, work);
     TwoBool(a, b)
 }
 
@@ -150,24 +139,24 @@ pub fn delay_of(t: u32, due: u32, deadline: u32) -> TwoSpan
     requires { ⌜ Delayed t due deadline ⌝ }
     ensures { λ r. ⌜ r .0 ≡ r .1 ⌝ }
 {
-    let a = due::delay_of(t, due, deadline);
-    let b = due::delay_of(t, due, deadline);
+    let a = packets::delay_of(t, due, deadline);
+    let b = packets::delay_of(t, due, deadline);
     TwoSpan(a, b)
 }
 
 pub fn share_node(x: Ends, y: Ends) -> TwoBool
     ensures { λ r. ⌜ r .0 ≡ r .1 ⌝ }
 {
-    let a = ends::share_node(x, y);
-    let b = ends::share_node(x, y);
+    let a = packets::share_node(x, y);
+    let b = packets::share_node(x, y);
     TwoBool(a, b)
 }
 
 pub fn mark_ends(a: Ends, x: &mut [u8; 256], y: &mut [u8; 256])
     ensures { λ r. ⌜ ((now (x .entry) ≡ now (y .entry)) → (now (x .exit) ≡ now (y .exit))) ⌝ }
 {
-    ends::mark_ends(a, x);
-    ends::mark_ends(a, y);
+    packets::mark_ends(a, x);
+    packets::mark_ends(a, y);
 }
 
 pub fn ends_of(
@@ -187,16 +176,16 @@ pub fn ends_of(
 pub fn refused(fault: Fault, st: State) -> TwoStepped
     ensures { λ r. ⌜ r .0 ≡ r .1 ⌝ }
 {
-    let a = refused_step::refused(fault, st);
-    let b = refused_step::refused(fault, st);
+    let a = step_parts::refused(fault, st);
+    let b = step_parts::refused(fault, st);
     TwoStepped(a, b)
 }
 
 pub fn state_fault(t: u32, sent: &[u8; Flow::MOST], work: &[u8; Flow::MOST]) -> TwoFault
     ensures { λ r. ⌜ r .0 ≡ r .1 ⌝ }
 {
-    let a = refused_step::state_fault(t, sent, work);
-    let b = refused_step::state_fault(t, sent, work);
+    let a = step_parts::state_fault(t, sent, work);
+    let b = step_parts::state_fault(t, sent, work);
     TwoFault(a, b)
 }
 
@@ -204,16 +193,7 @@ pub fn step_accepted(s: FlowSet, st: State) -> TwoStepped
     requires { ⌜ good (recordFault (used s) .refusal) ≡ true ⌝ }
     ensures { λ r. ⌜ r .0 ≡ r .1 ⌝ }
 {
-    let a = slot_step::step_accepted(s, st);
-    let b = slot_step::step_accepted(s, st);
+    let a = slot::step_accepted(s, st);
+    let b = slot::step_accepted(s, st);
     TwoStepped(a, b)
-}
-
-pub fn run_accepted(s: FlowSet, fault: Fault, budget: u32) -> TwoRan
-    requires { ⌜ (good (recordFault (used s) .refusal) ≡ true) × (fault ≡ recordFault (used s)) ⌝ }
-    ensures { λ r. ⌜ r .0 ≡ r .1 ⌝ }
-{
-    let a = slot_run::run_accepted(s, fault, budget);
-    let b = slot_run::run_accepted(s, fault, budget);
-    TwoRan(a, b)
 }

@@ -4,23 +4,12 @@
 ghost use mathlib.Core.Path.{_≡_};
 use model::FlowSet;
 use model::State;
-use model::Written;
 
 pub struct TwoPlaces(pub usize, pub usize);
-
-pub struct TwoWritten(pub Written, pub Written);
 
 pub struct TwoStates(pub State, pub State);
 
 pub struct TwoSlots(pub [u8; 4], pub [u8; 4]);
-
-pub fn width(v: u32) -> TwoPlaces
-    ensures { λ r. ⌜ r .0 ≡ r .1 ⌝ }
-{
-    let a = decimals::width(v);
-    let b = decimals::width(v);
-    TwoPlaces(a, b)
-}
 
 pub fn put_at(x: &mut [u8], y: &mut [u8], at: usize, b: u8)
     ensures { λ r. ⌜ ((now (x .entry) ≡ now (y .entry)) → (now (x .exit) ≡ now (y .exit))) ⌝ }
@@ -93,19 +82,11 @@ pub fn put_set(x: &mut [u8], y: &mut [u8], at: usize, s: FlowSet) -> TwoPlaces
     TwoPlaces(a, b)
 }
 
-pub fn write_text(s: FlowSet, x: &mut [u8], y: &mut [u8]) -> TwoWritten
-    ensures { λ r. ⌜ ((now (x .entry) ≡ now (y .entry)) → ((r .0 ≡ r .1) × (now (x .exit) ≡ now (y .exit)))) ⌝ }
-{
-    let a = room::write_text(s, x);
-    let b = room::write_text(s, y);
-    TwoWritten(a, b)
-}
-
 pub fn slot_bytes(t: u32) -> TwoSlots
     ensures { λ r. ⌜ r .0 ≡ r .1 ⌝ }
 {
-    let a = slot_bytes::slot_bytes(t);
-    let b = slot_bytes::slot_bytes(t);
+    let a = numbers::slot_bytes(t);
+    let b = numbers::slot_bytes(t);
     TwoSlots(a, b)
 }
 

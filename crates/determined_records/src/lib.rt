@@ -1,6 +1,7 @@
 // Each contract determines its function's result: called twice on the same inputs, a function gives the same answer. That is proved
-// from the contracts alone, since nothing else is seen from here. Here: the records and the record check.
+// from the contracts alone, since nothing else is seen from here. Here: the records, the record check, and what a line's numbers say.
 ghost use mathlib.Core.Path.{_≡_};
+use lines::Row;
 use model::ChannelMap;
 use model::Fault;
 use model::Flow;
@@ -147,32 +148,6 @@ pub fn map_fault(bits: u16) -> TwoRefusal
     TwoRefusal(a, b)
 }
 
-pub fn route_fault(
-    deadline: u16,
-    tries: u16,
-    nodes: usize,
-    route: [u16; Flow::MOST_NODES],
-) -> TwoRefusal
-    ensures { λ r. ⌜ r .0 ≡ r .1 ⌝ }
-{
-    let a = route_rules::route_fault(deadline, tries, nodes, route);
-    let b = route_rules::route_fault(deadline, tries, nodes, route);
-    TwoRefusal(a, b)
-}
-
-pub fn tries_fault(
-    deadline: u16,
-    tries: u16,
-    nodes: usize,
-    route: [u16; Flow::MOST_NODES],
-) -> TwoRefusal
-    ensures { λ r. ⌜ r .0 ≡ r .1 ⌝ }
-{
-    let a = tries_rules::tries_fault(deadline, tries, nodes, route);
-    let b = tries_rules::tries_fault(deadline, tries, nodes, route);
-    TwoRefusal(a, b)
-}
-
 pub fn flow_fault(
     k: usize,
     period: u16,
@@ -194,4 +169,51 @@ pub fn record_fault(s: FlowSet) -> TwoFault
     let a = rules::record_fault(s);
     let b = rules::record_fault(s);
     TwoFault(a, b)
+}
+
+pub struct TwoNumbers(
+    pub [u32; 4 + Flow::MOST_NODES],
+    pub [u32; 4 + Flow::MOST_NODES],
+);
+
+pub struct TwoRow(pub Row, pub Row);
+
+pub fn row_none() -> TwoRow
+    ensures { λ r. ⌜ r .0 ≡ r .1 ⌝ }
+{
+    let a = Row::none();
+    let b = Row::none();
+    TwoRow(a, b)
+}
+
+pub fn line_at(s: &[u8], from: usize, word: &[u8]) -> TwoRow
+    ensures { λ r. ⌜ r .0 ≡ r .1 ⌝ }
+{
+    let a = lines::line_at(s, from, word);
+    let b = lines::line_at(s, from, word);
+    TwoRow(a, b)
+}
+
+pub fn row_fault(k: usize, row: Row) -> TwoRefusal
+    ensures { λ r. ⌜ r .0 ≡ r .1 ⌝ }
+{
+    let a = row_rules::flow_fault(k, row);
+    let b = row_rules::flow_fault(k, row);
+    TwoRefusal(a, b)
+}
+
+pub fn flow_with(numbers: [u16; Row::MOST], nodes: u16) -> TwoFlow
+    ensures { λ r. ⌜ r .0 ≡ r .1 ⌝ }
+{
+    let a = row_rules::flow_with(numbers, nodes);
+    let b = row_rules::flow_with(numbers, nodes);
+    TwoFlow(a, b)
+}
+
+pub fn flow_numbers(f: Flow) -> TwoNumbers
+    ensures { λ r. ⌜ r .0 ≡ r .1 ⌝ }
+{
+    let a = decimals::flow_numbers(f);
+    let b = decimals::flow_numbers(f);
+    TwoNumbers(a, b)
 }

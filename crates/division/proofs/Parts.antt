@@ -9,7 +9,7 @@ use lib.Seq.{getD-set-same, getD-set-other}
 use Rattle.model.specs.declared.kinds.FlowSet.{FlowSet}
 use Rattle.model.specs.Limits.{mostFlows}
 use Rattle.document.specs.Delay.{period, deadline, workAt}
-use Rattle.grid.proofs.Fill.{row-start, row-next, filled-start, filled-next}
+use Rattle.tables.proofs.Fill.{row-start, row-next, filled-start, filled-next}
 use Rattle.division.specs.Divided.{NumbersTo, Divided}
 
 -- the numbers of one flow more

@@ -6,7 +6,7 @@ use lib.ListN.{length, getD}
 use Rattle.model.specs.declared.kinds.FlowSet.{FlowSet}
 use Rattle.model.specs.Limits.{mostFlows}
 use Rattle.document.specs.Delay.{period, deadline, workAt}
-use Rattle.grid.specs.Grid.{RowDone, FilledTo}
+use Rattle.tables.specs.Grid.{RowDone, FilledTo}
 
 -- T, D and C of the first k flows
 pub record NumbersTo (s : FlowSet) (k : ℕ) (p d w : List ℕ) : Type 0 where

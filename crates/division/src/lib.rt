@@ -23,7 +23,7 @@ pub fn numbers(
     while k < n {
         let f = s.flows[k];
         period[k] = f.period.0;
-        deadline[k] = arithmetic::bounded(f.deadline.0);
+        deadline[k] = numbers::bounded(f.deadline.0);
         work[k] = f.work() as u16;
         k += 1;
     }
@@ -36,7 +36,7 @@ pub fn divide(
     deadline: u16,
     period: &[u16; Flow::MOST],
     q: &mut [u16; Flow::MOST],
-    remainder: &mut [u16; grid::PAIRS],
+    remainder: &mut [u16; tables::PAIRS],
 )
     requires { ⌜ (k < n) × (n ≤ 64) × (0 < deadline) × ((l : ℕ) → l < n → 0 < getD (now period) l 0) ⌝ }
     requires { ⌜ (length (now q) ≡ 64) × (length (now remainder) ≡ 4096) ⌝ }
@@ -44,8 +44,8 @@ pub fn divide(
 {
     let mut l: usize = 0;
     while l < n {
-        q[l] = quotients::quotient(deadline, period[l]);
-        remainder[k * Flow::MOST + l] = quotients::left_over(deadline, period[l]);
+        q[l] = numbers::quotient(deadline, period[l]);
+        remainder[k * Flow::MOST + l] = numbers::left_over(deadline, period[l]);
         l += 1;
     }
 }

@@ -1,10 +1,24 @@
-// The equation of document 01's tightened delay test: its value for a flow, from the tables.
+// What a flow's row of the pair tables gives: the sums of q·S and q·C over the other flows with r beside them, and from these the value of
+// the equation of document 01's tightened delay test, for one flow and for every flow.
 ghost use mathlib.Core.Path.{_≡_};
-ghost use Prim.Native.Nat.{_≤_, _<_};
+ghost use Prim.Native.Nat.{_≤_, _<_, _*_, ℕ, _%_};
+ghost use Rattle.document.specs.Delay.{joined};
 ghost use Rattle.tables.specs.Tables.{tablesOf};
-ghost use Rattle.tables.specs.Rows.{SmallRow};
-ghost use Rattle.tables.specs.Sums.{conflictRow, workRow, tableValue, Ordered};
+ghost use Rattle.tables.specs.Rows.{SmallRow, Short, wholeRow};
+ghost use Rattle.tables.specs.Sums.{conflictRow, workRow, tableValue, Ordered, Fits};
+ghost use Rattle.tables.specs.Steps.{ValuesTo};
+ghost use lib.ListN.{getD, length};
+ghost use Rattle.model.specs.Sums.{sumTo};
+ghost use Rattle.tables.specs.Grid.{pairAt, ofOther, RowDone};
 use model::Flow;
+
+// C + ΣX + (ΣW − ΣX) / m: the one division, after both sums.
+fn join(c: u16, x: u32, w: u32, m: u32) -> u32
+    requires { ⌜ (x ≤ w) × (w ≤ 272625600) × (0 < m) ⌝ }
+    ensures { λ r. ⌜ (r ≡ joined c x w m) × (r ≤ 272691135) ⌝ }
+{
+    (c as u32) + x + (w - x) / m
+}
 
 // What a list adds to Σ q·S and to Σ q·C of a flow.
 struct Added {
@@ -16,8 +30,8 @@ struct Added {
 // most 64, so 16 bits hold them, and eight places are added at a time.
 fn add_up(
     k: usize,
-    conflict: &[u16; grid::PAIRS],
-    remainder: &[u16; grid::PAIRS],
+    conflict: &[u16; tables::PAIRS],
+    remainder: &[u16; tables::PAIRS],
     work: &[u16; Flow::MOST],
     gone: &[u16; Flow::MOST],
 ) -> Added
@@ -30,9 +44,9 @@ fn add_up(
     let mut w: u16 = 0;
     let mut l: usize = 0;
     while l < Flow::MOST {
-        let y = arithmetic::less(remainder[row + l], gone[l]);
-        x += arithmetic::least(conflict[row + l], y);
-        w += arithmetic::least(work[l], y);
+        let y = numbers::less(remainder[row + l], gone[l]);
+        x += numbers::least(conflict[row + l], y);
+        w += numbers::least(work[l], y);
         l += 1;
     }
     Added {
@@ -45,8 +59,8 @@ fn add_up(
 pub fn value<'a>(
     k: usize,
     m: u32,
-    conflict: &'a [u16; grid::PAIRS],
-    remainder: &'a [u16; grid::PAIRS],
+    conflict: &'a [u16; tables::PAIRS],
+    remainder: &'a [u16; tables::PAIRS],
     work: &'a [u16; Flow::MOST],
     deadline: &'a [u16; Flow::MOST],
     whole_conflict: &'a [u32; Flow::MOST],
@@ -60,5 +74,106 @@ pub fn value<'a>(
     let more = add_up(k, conflict, remainder, work, gone);
     let x = whole_conflict[k] + more.conflict as u32;
     let w = whole_work[k] + more.work as u32;
-    quotients::join(work[k], x, w, m)
+    join(work[k], x, w, m)
+}
+
+// A number for each flow.
+pub type Values = [u32; Flow::MOST];
+
+// The equation's value for every flow.
+pub fn values<'a>(
+    n: usize,
+    m: u32,
+    conflict: &'a [u16; tables::PAIRS],
+    remainder: &'a [u16; tables::PAIRS],
+    work: &'a [u16; Flow::MOST],
+    deadline: &'a [u16; Flow::MOST],
+    whole_conflict: &'a [u32; Flow::MOST],
+    whole_work: &'a [u32; Flow::MOST],
+    gone: &[u16; Flow::MOST],
+) -> Values
+    requires { ⌜ (n ≤ 64) × (0 < m) ⌝ }
+    requires { ⌜ Fits (tablesOf (now conflict) (now remainder) (now work) (now deadline) (now «whole_conflict») (now «whole_work»)) n ⌝ }
+    ensures { λ r. ⌜ ValuesTo (tableValue (tablesOf (now (conflict .entry)) (now (remainder .entry)) (now (work .entry)) (now (deadline .entry)) (now («whole_conflict» .entry)) (now («whole_work» .entry))) m (now (gone .entry))) n r ⌝ }
+{
+    let mut out = [0u32; Flow::MOST];
+    let mut j: usize = 0;
+    while j < n {
+        out[j] = value(
+            j,
+            m,
+            conflict,
+            remainder,
+            work,
+            deadline,
+            whole_conflict,
+            whole_work,
+            gone,
+        );
+        j += 1;
+    }
+    out
+}
+
+// A whole number of packets' transmissions.
+fn times(q: u16, count: u16) -> u32
+    requires { ⌜ (q ≤ 65535) × (count ≤ 64) ⌝ }
+    ensures { λ r. ⌜ (r ≡ q * count) × (r ≤ 4194240) ⌝ }
+{
+    (q as u32) * (count as u32)
+}
+
+// The sums of q·S and q·C over the flows other than one.
+pub struct Whole {
+    pub conflict: u32,
+    pub work: u32,
+}
+
+// These sums for flow k, whose own q is 0.
+fn whole_of(
+    k: usize,
+    conflict: &[u16; tables::PAIRS],
+    work: &[u16; Flow::MOST],
+    q: &[u16; Flow::MOST],
+) -> Whole
+    requires { ⌜ (k < 64) × SmallRow (now conflict) (now work) k ⌝ }
+    ensures { λ r. ⌜ r .conflict ≡ sumTo (λ l. getD (now (q .entry)) l 0 * pairAt (now (conflict .entry)) k l) 64 ⌝ }
+    ensures { λ r. ⌜ (r .work ≡ sumTo (λ l. getD (now (q .entry)) l 0 * getD (now (work .entry)) l 0) 64) × (r .work ≤ 268431360) ⌝ }
+{
+    let mut x: u32 = 0;
+    let mut w: u32 = 0;
+    let mut l: usize = 0;
+    while l < Flow::MOST {
+        let packets = numbers::bounded(q[l]);
+        x += times(packets, conflict[k * Flow::MOST + l]);
+        w += times(packets, work[l]);
+        l += 1;
+    }
+    Whole {
+        conflict: x,
+        work: w,
+    }
+}
+
+// r of flow k and the others, and their sums of q·S and q·C.
+pub fn row<'a>(
+    k: usize,
+    n: usize,
+    deadline: u16,
+    period: &'a [u16; Flow::MOST],
+    conflict: &'a [u16; tables::PAIRS],
+    work: &'a [u16; Flow::MOST],
+    q: &mut [u16; Flow::MOST],
+    remainder: &mut [u16; tables::PAIRS],
+) -> Whole
+    requires { ⌜ (k < n) × (n ≤ 64) × (0 < deadline) × ((l : ℕ) → l < n → 0 < getD (now period) l 0) ⌝ }
+    requires { ⌜ SmallRow (now conflict) (now work) k × Short n (now q) × (length (now remainder) ≡ 4096) ⌝ }
+    ensures { λ r. ⌜ Short n (now (q .exit)) × RowDone (λ l. ofOther k l (deadline % getD (now (period .entry)) l 0)) n k (now (remainder .entry)) (now (remainder .exit)) ⌝ }
+    ensures { λ r. ⌜ r .conflict ≡ wholeRow deadline (now (period .entry)) n k (λ l. pairAt (now (conflict .entry)) k l) ⌝ }
+    ensures { λ r. ⌜ (r .work ≡ wholeRow deadline (now (period .entry)) n k (λ l. getD (now (work .entry)) l 0)) × (r .work ≤ 268431360) ⌝ }
+{
+    division::divide(k, n, deadline, period, q, remainder);
+    q[k] = 0;
+    remainder[k * Flow::MOST + k] = 0;
+    whole_of(k, conflict, work, q)
 }

@@ -10,7 +10,7 @@ use lib.Seq.{getD-set-same, getD-set-other}
 use Rattle.model.specs.Limits.{mostFlows}
 use Rattle.model.specs.Sums.{sumTo}
 use Rattle.laws.specs.Sums.{sum-next}
-use Rattle.grid.proofs.Fill.{zeros}
+use Rattle.tables.proofs.Fill.{zeros}
 use Rattle.index.specs.Met.{either, Added, metTo, Met}
 
 -- one flow more has its number raised

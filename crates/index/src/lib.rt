@@ -27,8 +27,8 @@ pub fn place(s: FlowSet, rows: &mut [u16; node_rows::NODES])
 pub fn row_of(rows: &[u16; node_rows::NODES], node: u16) -> usize
     ensures { λ r. ⌜ (r ≡ getD (now (rows .entry)) node 0) × (r ≤ 65535) ⌝ }
 {
-    let at = arithmetic::wide(node);
-    arithmetic::wide(rows[at])
+    let at = numbers::wide(node);
+    numbers::wide(rows[at])
 }
 
 // Flow k is one of those whose route its nodes are on.
@@ -71,7 +71,7 @@ pub fn add_link(a: usize, b: usize, users: &[u8; node_rows::USERS], touched: &mu
     let mut k: usize = 0;
     while k < Flow::MOST {
         let old = touched[k];
-        touched[k] = old + arithmetic::larger(users[first + k], users[second + k]);
+        touched[k] = old + numbers::larger(users[first + k], users[second + k]);
         k += 1;
     }
 }

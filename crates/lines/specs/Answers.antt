@@ -6,8 +6,8 @@ use lib.ListN.{length, replicate}
 use Rattle.model.specs.Limits.{mostNodes}
 use Rattle.document.specs.Reader.{pad}
 use Rattle.document.specs.Text.{wellFormed, numbersOf}
-use Rattle.digits.specs.Places.{line}
-use Rattle.lines.specs.declared.reading.Row.{Row}
+use Rattle.lines.specs.Places.{line}
+use Rattle.lines.specs.declared.Row.{Row}
 
 -- the most numbers that a line can have and be accepted: four of a flow, and its nodes
 abbrev pub mostNumbers : ℕ

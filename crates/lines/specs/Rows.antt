@@ -14,12 +14,12 @@ use borrow.Author.Tests.{eqb-true, eq-eqb, ne-eqb}
 use Rattle.laws.specs.Sums.{and-l, and-r}
 use Rattle.document.specs.Reader.{pad}
 use Rattle.document.specs.Text.{same, ended, fields, valueOf, isNumber, allNumbers, valuesOf, wellFormed, numbersOf}
-use Rattle.digits.specs.declared.NumberRead.the-variants.{Value, Refused}
-use Rattle.lines.specs.declared.reading.Row.{Row}
-use Rattle.digits.specs.Places.{first, more, line, after}
-use Rattle.digits.specs.Answers.{numberIf, numberIn}
+use Rattle.lines.specs.declared.NumberRead.the-variants.{Value, Refused}
+use Rattle.lines.specs.declared.Row.{Row}
+use Rattle.lines.specs.Places.{first, more, line, after}
+use Rattle.lines.specs.Numbers.{numberIf, numberIn}
 use Rattle.lines.specs.Answers.{mostNumbers, noRow, rowIf, rowIn}
-use Rattle.numerals.specs.Fields.{Sep, is-tab, is-lf, within, sep, fields-parts, first-within, more-within, ended-within, line-within, Past, past-first}
+use Rattle.lines.specs.Fields.{Sep, is-tab, is-lf, within, sep, fields-parts, first-within, more-within, ended-within, line-within, Past, past-first}
 
 -- a byte that is not 0 stands at the front of what is left
 pub drop-byte : (s : List ℕ) (i b : ℕ) → getD s i 0 ≡ b → 0 < b → (i < length s) × (drop i s ≡ b ∷ drop (i + 1) s)

@@ -17,8 +17,8 @@ use Rattle.model.specs.Sets.{flowAt, memb, meet, exact, used, links}
 use Rattle.document.specs.Delay.{touches, conflictWork}
 use Rattle.laws.specs.Sums.{sum-next, sum-ext, sum-zero}
 use Rattle.laws.specs.Used.{used-flow}
-use Rattle.grid.specs.Grid.{pairAt, conflictOf, RowsTo}
-use Rattle.grid.proofs.Fill.{zeros}
+use Rattle.tables.specs.Grid.{pairAt, conflictOf, RowsTo}
+use Rattle.tables.proofs.Fill.{zeros}
 use Rattle.marks.proofs.Routes.{meet-ends}
 use Rattle.node_rows.specs.Index.{Rowed, PlacedTo, UsersTo}
 use Rattle.index.specs.Met.{either, metTo}

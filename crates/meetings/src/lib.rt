@@ -4,7 +4,7 @@ ghost use Prim.Native.Nat.{ℕ, _*_, _-_, _≤_, _<_};
 ghost use lib.ListN.{length, getD};
 ghost use Rattle.model.specs.Sets.{used};
 ghost use Rattle.laws.specs.Accepted.{Accepted};
-ghost use Rattle.grid.specs.Grid.{conflictOf, RowsTo};
+ghost use Rattle.tables.specs.Grid.{conflictOf, RowsTo};
 ghost use Rattle.node_rows.specs.Index.{Placed, PlacedTo, UsersTo};
 ghost use Rattle.meetings.specs.Columns.{ColumnDone};
 ghost use Rattle.index.specs.Met.{metTo};
@@ -17,7 +17,7 @@ fn put_column(
     l: usize,
     tries: u16,
     touched: &[u8; Flow::MOST],
-    t: &mut [u16; grid::PAIRS],
+    t: &mut [u16; tables::PAIRS],
 )
     requires { ⌜ (n ≤ 64) × (l < 64) × (tries ≤ 4) × (length (now t) ≡ 4096) × ((k : ℕ) → getD (now touched) k 0 ≤ 16) ⌝ }
     ensures { λ r. ⌜ ColumnDone (λ k. tries * getD (now (touched .entry)) k 0) n l (now (t .entry)) (now (t .exit)) ⌝ }
@@ -44,7 +44,7 @@ fn meet(
     l: Flow,
     rows: &[u16; node_rows::NODES],
     users: &[u8; node_rows::USERS],
-    t: &mut [u16; grid::PAIRS],
+    t: &mut [u16; tables::PAIRS],
 )
     requires { ⌜ (n ≤ 64) × (at < 64) × (2 ≤ l .nodes) × (l .nodes ≤ 17) × (l .tries ≤ 4) × (length (now t) ≡ 4096) ⌝ }
     requires { ⌜ Placed (now rows) 1088 × ((i : ℕ) → getD (now users) i 0 ≤ 1) ⌝ }
@@ -61,7 +61,7 @@ fn by_index(
     s: FlowSet,
     rows: &[u16; node_rows::NODES],
     users: &[u8; node_rows::USERS],
-    t: &mut [u16; grid::PAIRS],
+    t: &mut [u16; tables::PAIRS],
 )
     requires { ⌜ Accepted (used s) × RowsTo (conflictOf (used s)) (s .count) 0 (now t) ⌝ }
     requires { ⌜ PlacedTo s (s .count) (now rows) × UsersTo s (now rows) (s .count) (now users) ⌝ }
@@ -77,7 +77,7 @@ fn by_index(
 }
 
 // The index is made and used.
-fn many(s: FlowSet, t: &mut [u16; grid::PAIRS])
+fn many(s: FlowSet, t: &mut [u16; tables::PAIRS])
     requires { ⌜ Accepted (used s) × RowsTo (conflictOf (used s)) (s .count) 0 (now t) ⌝ }
     ensures { λ r. ⌜ RowsTo (conflictOf (used s)) (s .count) (s .count) (now (t .exit)) ⌝ }
 {
@@ -92,7 +92,7 @@ fn many(s: FlowSet, t: &mut [u16; grid::PAIRS])
 const MANY: u16 = 10;
 
 // S of every pair. Both ways give the same numbers; which is faster depends on the number of flows.
-pub fn conflicts(s: FlowSet, t: &mut [u16; grid::PAIRS])
+pub fn conflicts(s: FlowSet, t: &mut [u16; tables::PAIRS])
     requires { ⌜ Accepted (used s) × RowsTo (conflictOf (used s)) (s .count) 0 (now t) ⌝ }
     ensures { λ r. ⌜ RowsTo (conflictOf (used s)) (s .count) (s .count) (now (t .exit)) ⌝ }
 {

@@ -16,8 +16,8 @@ use Rattle.model.specs.declared.kinds.FlowSet.{FlowSet}
 use Rattle.model.specs.Limits.{mostFlows, mostNodes}
 use Rattle.model.specs.Sums.{bit}
 use Rattle.model.specs.Sets.{flowAt, anyOf, memb}
-use Rattle.grid.specs.Grid.{pairAt}
-use Rattle.grid.proofs.Fill.{zeros}
+use Rattle.tables.specs.Grid.{pairAt}
+use Rattle.tables.proofs.Fill.{zeros}
 use Rattle.node_rows.specs.Index.{nodeNumbers, mostRows, Placed, Rowed, Kept, PlacedTo, Column, OtherColumns, UsersTo}
 
 -- a number at a place of its own, and what else is there

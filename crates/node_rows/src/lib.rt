@@ -17,7 +17,7 @@ pub fn place_route(f: Flow, k: usize, rows: &mut [u16; NODES])
     let n = f.nodes as usize;
     let mut j: usize = 0;
     while j < n {
-        let node = arithmetic::wide(f.route[j]);
+        let node = numbers::wide(f.route[j]);
         rows[node] = (k * Flow::MOST_NODES + j + 1) as u16;
         j += 1;
     }

@@ -16,8 +16,8 @@ use Rattle.document.specs.Delay.{boundsOf, boundsIf, boundsFault, verdictOf}
 use Rattle.document.specs.Machine.{sendsAt, runOf}
 use Rattle.document.specs.Program.{boundLines, runLines, planOf, verdictWord}
 use Rattle.laws.specs.Accepted.{accepted}
-use Rattle.printing.specs.Lengths.{line-le, bounds-le, sends-le}
-use Rattle.bound_line.specs.BoundText.{boundText, bound-text}
+use Rattle.puts.specs.Lengths.{line-le, bounds-le, sends-le}
+use Rattle.answer_lines.specs.BoundText.{boundText, bound-text}
 use Rattle.machinery.specs.Steps.{sends-few}
 
 -- the margin is deadline less bound, of a refused answer too

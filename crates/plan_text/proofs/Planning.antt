@@ -15,7 +15,7 @@ use Rattle.model.specs.Refusals.{good, faultAt, refusalNumber}
 use Rattle.model.specs.Sets.{used}
 use Rattle.document.specs.Reader.{readText}
 use Rattle.document.specs.Program.{planOf, planText, planIf, refusedWord, refusedLine}
-use Rattle.printing.specs.Lengths.{line-le, put-length, put-long, put-start, put-read}
+use Rattle.puts.specs.Lengths.{line-le, put-length, put-long, put-start, put-read}
 use Rattle.puts.specs.Stores.{Put, put-same}
 use Rattle.plan_text.specs.Plans.{planRead, noRoom, planned, planAnswer, planInto}
 

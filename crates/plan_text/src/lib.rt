@@ -8,14 +8,14 @@ ghost use Rattle.plan_text.specs.Plans.{Passed, planRead, planAnswer, pl
 
 mod plan_lines;
 
-use input_limit::is_long;
-use input_limit::put_long;
+use answer_lines::is_long;
+use answer_lines::put_long;
 use model::Fault;
 use model::Reading;
 use model::Refusal;
 use model::Written;
 use plan_lines::put_plan;
-use printing::put_refused;
+use puts::put_refused;
 
 // What the program prints for a text that was read.
 fn put_reading(out: &mut [u8], reading: Reading) -> usize

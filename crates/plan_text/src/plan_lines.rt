@@ -7,12 +7,12 @@ ghost use Rattle.model.specs.Sets.{used};
 ghost use Rattle.document.specs.Reader.{recordFault};
 ghost use Rattle.document.specs.Program.{boundLines, planOf};
 ghost use Rattle.puts.specs.Stores.{Put};
-ghost use Rattle.bounds.specs.Answers.{AllBoundsOf};
-use bound_line::put_bound;
-use bounds::AllBounds;
+ghost use Rattle.tables.specs.Answers.{AllBoundsOf};
+use answer_lines::put_bound;
+use answer_lines::put_verdict;
 use model::FlowSet;
 use run_lines::put_run;
-use verdict_line::put_verdict;
+use tables::AllBounds;
 
 // The `bound` lines of a set's flows, from the bounds of all.
 fn put_bounds(out: &mut [u8], at: usize, s: FlowSet, j: AllBounds) -> usize
@@ -23,7 +23,7 @@ fn put_bounds(out: &mut [u8], at: usize, s: FlowSet, j: AllBounds) -> usize
     let mut place = at;
     let mut k: u16 = 0;
     while k < n {
-        let b = flow_bounds::bounds_of(s, k, j);
+        let b = verdicts::bounds_of(s, k, j);
         place = put_bound(out, place, k, b);
         k += 1;
     }

@@ -13,7 +13,7 @@ use Rattle.model.specs.Refusals.{good, orElse, faultAt}
 use Rattle.model.specs.Sets.{used}
 use Rattle.document.specs.Delay.{boundsOf, boundsFault, boundsIf}
 use Rattle.document.specs.Reader.{recordFault}
-use Rattle.c_numbers.specs.Numbers.{refusedBounds}
+use Rattle.answer_lines.specs.Numbers.{refusedBounds}
 use Rattle.laws.specs.Used.{used-count}
 
 -- 13, if the set is not refused itself

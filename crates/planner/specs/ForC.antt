@@ -10,10 +10,10 @@ use Rattle.model.specs.Sets.{used}
 use Rattle.document.specs.Reader.{readText}
 use Rattle.document.specs.Delay.{verdictOf, boundsOf}
 use Rattle.planner.specs.Slots.{slotAnswer}
-use Rattle.c_numbers.specs.declared.VerdictAnswer.{VerdictAnswer}
-use Rattle.c_numbers.specs.declared.BoundsAnswer.{BoundsAnswer}
-use Rattle.c_numbers.specs.declared.SlotAnswer.{SlotAnswer}
-use Rattle.c_numbers.specs.Numbers.{refusedVerdict, refusedBounds, verdictNumbers, boundsNumbers, slotNumbers}
+use Rattle.answer_lines.specs.declared.VerdictAnswer.{VerdictAnswer}
+use Rattle.answer_lines.specs.declared.BoundsAnswer.{BoundsAnswer}
+use Rattle.answer_lines.specs.declared.SlotAnswer.{SlotAnswer}
+use Rattle.answer_lines.specs.Numbers.{refusedVerdict, refusedBounds, verdictNumbers, boundsNumbers, slotNumbers}
 
 -- a set handed over as text is read before anything else is tested, with the reader's refusals
 unfoldable pub verdictOfReading : Reading → Verdict

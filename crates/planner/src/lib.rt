@@ -8,9 +8,9 @@ ghost use Rattle.planner.specs.ForC.{verdictForC, boundsForC, slotForC};
 mod reading;
 mod slots;
 
-use c_numbers::BoundsAnswer;
-use c_numbers::SlotAnswer;
-use c_numbers::VerdictAnswer;
+use answer_lines::BoundsAnswer;
+use answer_lines::SlotAnswer;
+use answer_lines::VerdictAnswer;
 
 // Both verdicts of the set in `text`; a text that is refused has the reader's refusal and line, and zeros.
 #[no_mangle]

@@ -1,9 +1,9 @@
 // What is said of a set that was handed over as text: the reader's refusal, if there is one, before anything else.
 ghost use mathlib.Core.Path.{_≡_};
 ghost use Rattle.model.specs.Sums.{bit};
-ghost use Rattle.c_numbers.specs.Numbers.{refusedVerdict, refusedBounds};
+ghost use Rattle.answer_lines.specs.Numbers.{refusedVerdict, refusedBounds};
 ghost use Rattle.planner.specs.ForC.{verdictOfReading, boundsOfReading};
-use c_numbers::flow_number;
+use answer_lines::flow_number;
 use model::Bounds;
 use model::Fault;
 use model::Reading;

@@ -5,9 +5,9 @@ ghost use Rattle.document.specs.Program.{slotState, slotBuffer};
 ghost use Rattle.planner.specs.Slots.{slotAnswer};
 use model::Reading;
 use model::Written;
-use refusals::early;
-use refusals::refused;
 use state_bytes::state_of;
+use written_step::early;
+use written_step::refused;
 use written_step::write_step;
 
 // One slot of a set that was read.

@@ -1,1 +1,3 @@
 pub mod Stores
+pub mod Sends
+pub mod Lengths

@@ -15,14 +15,14 @@ use Rattle.document.specs.Reader.{mapFault, firstLineFault, refusedReading, rea
 use Rattle.model.specs.Sets.{blankSet}
 use Rattle.document.specs.Text.{setWord, same, lines, fields, wellFormed, numbersOf}
 use Rattle.laws.specs.Sums.{and-l}
-use Rattle.digits.specs.Places.{line, after}
-use Rattle.numerals.specs.Fields.{lines-line, formed-line, numbers-line, drop-line}
-use Rattle.lines.specs.declared.reading.Row.{Row}
+use Rattle.lines.specs.Places.{line, after}
+use Rattle.lines.specs.Fields.{lines-line, formed-line, numbers-line, drop-line}
+use Rattle.lines.specs.declared.Row.{Row}
 use Rattle.lines.specs.Answers.{mostNumbers, rowIf, rowIn}
-use Rattle.first_line.specs.Judged.{firstRowFault}
+use Rattle.reader.specs.FirstJudged.{firstRowFault}
 use Rattle.row_rules.specs.Pads.{pad-at}
-use Rattle.flow_lines.specs.Judged.{setWith, answerOf}
-use Rattle.flow_lines.specs.Judging.{formed-first, row-formed}
+use Rattle.reader.specs.Judged.{setWith, answerOf}
+use Rattle.reader.specs.Judging.{formed-first, row-formed}
 
 -- the first line judged
 pub first-good : (l : List ℕ) (ls : List (List ℕ)) → good (firstLineFault l) ≡ true → readLines (l ∷ ls) ≡ readFlows (setOf l) ls

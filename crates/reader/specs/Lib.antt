@@ -1,1 +1,4 @@
+pub mod FirstJudged
+pub mod Judged
+pub mod Judging
 pub mod First

@@ -7,13 +7,13 @@ ghost use Rattle.model.specs.Sets.{filterTo};
 ghost use Rattle.document.specs.Machine.{filled, noDelivery};
 ghost use Rattle.machinery.specs.Lists.{Through};
 ghost use Rattle.machinery.specs.Answers.{deliveredBy, deliveriesBy, droppedBy, Delayed};
-use due::delay_of;
 use model::ChannelMap;
 use model::Delivery;
 use model::Flow;
 use model::Span;
-use packet::is_delivered;
-use packet::is_dropped;
+use packets::delay_of;
+use packets::is_delivered;
+use packets::is_dropped;
 
 pub struct Delivered {
     pub count: u16,

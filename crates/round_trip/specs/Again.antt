@@ -23,12 +23,12 @@ use Rattle.document.specs.Reader.{mapFault, flowFault, recordFlowFault, flowsFa
 use Rattle.document.specs.Text.{setWord, flowWord, onto, lines, wellFormed, numbersOf, decimal, lineOf}
 use Rattle.laws.specs.Accepted.{GoodFlow, good-flow, good-flows, or-else-good}
 use Rattle.laws.specs.Sums.{and-l, and-r, and-i}
-use Rattle.digits.specs.Places.{line, after}
-use Rattle.numerals.specs.Fields.{lines-line, line-after}
+use Rattle.lines.specs.Places.{line, after}
+use Rattle.lines.specs.Fields.{lines-line, line-after}
 use Rattle.decimals.specs.Decimals.{decimal-one}
 use Rattle.puts.specs.Stores.{fieldsOf, line-parts}
 use Rattle.row_rules.specs.Pads.{pad-at, pad-take}
-use Rattle.flow_lines.specs.Judging.{read-good, read-bad, GoodLine, good-line, judgedFlow}
+use Rattle.reader.specs.Judging.{read-good, read-bad, GoodLine, good-line, judgedFlow}
 use Rattle.reader.specs.First.{first-good, first-bad, first-formed}
 use Rattle.round_trip.specs.Numerals.{decimal-five}
 use Rattle.round_trip.specs.Lines.{inside, small, Line, line-written, line-back, line-small}

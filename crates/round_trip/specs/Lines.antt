@@ -9,8 +9,8 @@ use lib.ListN.{length, getD, length-append}
 use borrow.Author.Tests.{ne-eqb, eq-eqb, eqb-true, leb-true, not-true}
 use Rattle.document.specs.Text.{setWord, flowWord, same, onto, lines, ended, fields, firstOf, othersOf, isDigit, allDigits, plain, isNumber, allNumbers, valuesOf, valueOf, wellFormed, numbersOf, decimal, tabbed, decimals, lineOf}
 use Rattle.laws.specs.Sums.{and-l, and-r, and-i}
-use Rattle.digits.specs.Places.{first, more, line, after}
-use Rattle.numerals.specs.Fields.{Sep, is-tab, is-lf, within, sep, fields-parts, fields-within, first-within, more-within, ended-within, lines-line}
+use Rattle.lines.specs.Places.{first, more, line, after}
+use Rattle.lines.specs.Fields.{Sep, is-tab, is-lf, within, sep, fields-parts, fields-within, first-within, more-within, ended-within, lines-line}
 use Rattle.puts.specs.Stores.{fieldsOf, tabbed-fields, line-parts}
 use Rattle.round_trip.specs.Numerals.{numeral, decimal-number, value-decimal, number-decimal, decimal-five}
 

@@ -10,7 +10,7 @@ use lib.ListN.{length, length-append}
 use borrow.Author.Tests.{ne-eqb, le-leb, lt-ltb, leb-true, ltb-true, eqb-false, not-true}
 use Rattle.document.specs.Text.{zeroDigit, isDigit, allDigits, plain, valueFrom, valueOf, isNumber, decimal}
 use Rattle.laws.specs.Sums.{and-l, and-r, and-i}
-use Rattle.numerals.specs.Digits.{value-grows, good-number}
+use Rattle.lines.specs.Digits.{value-grows, good-number}
 use Rattle.decimals.specs.Decimals.{tenDigits, top, decimal-one, decimal-more, decimal-size, digits-least}
 
 -- one digit more at the end

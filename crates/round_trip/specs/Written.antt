@@ -25,7 +25,7 @@ use Rattle.laws.specs.Accepted.{Accepted, good-flow, good-flows, or-else-good, 
 use Rattle.laws.specs.Sums.{and-l, and-r}
 use Rattle.laws.specs.Used.{used-flow, used-count, used-map}
 use Rattle.row_rules.specs.Pads.{pad-at, pad-take}
-use Rattle.flow_lines.specs.Judging.{read-good}
+use Rattle.reader.specs.Judging.{read-good}
 use Rattle.reader.specs.First.{first-good}
 use Rattle.set_lines.specs.Lines.{used-length}
 use Rattle.round_trip.specs.Lines.{inside, small, Line, line-written}

@@ -16,7 +16,7 @@ use Rattle.model.specs.Sets.{noFlow, blankFlow, blankSet, flowAt}
 use Rattle.document.specs.Reader.{pad, flowOf, withFlow, firstLineFault, flowLineFault, readFlows, setOf, readLines, readText}
 use Rattle.document.specs.Text.{lines, numbersOf}
 use Rattle.row_rules.specs.Pads.{pad-at, pad-length}
-use Rattle.flow_lines.specs.Judging.{read-good, read-bad, good-line}
+use Rattle.reader.specs.Judging.{read-good, read-bad, good-line}
 use Rattle.reader.specs.First.{first-good, first-bad}
 
 -- all entries that don't count are 0

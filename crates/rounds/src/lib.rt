@@ -1,12 +1,68 @@
+// A round of document 01's tightened delay test.
 // The rounds of document 01's tightened delay test, to the first that changes nothing.
+ghost use Prim.Native.Nat.{_≤_, _<_};
+ghost use Rattle.tables.specs.Tables.{tablesOf, Tabled};
+ghost use Rattle.tables.specs.Sums.{Fits};
+ghost use Rattle.tables.specs.Steps.{Below, RoundFor, leftOf};
 ghost use mathlib.Core.Path.{_≡_};
 ghost use Rattle.model.specs.Sets.{used};
 ghost use Rattle.document.specs.Delay.{reached};
 ghost use Rattle.laws.specs.Accepted.{Accepted};
-ghost use Rattle.tables.specs.Tables.{tablesOf, Tabled};
-ghost use Rattle.tables.specs.Steps.{leftOf, Below};
 use model::Flow;
 use model::FlowSet;
+
+// What a round leaves of a list, and whether that is another list than before.
+pub struct Round {
+    pub gone: [u16; Flow::MOST],
+    pub changed: bool,
+}
+
+// A round: the flows in order, each entry replaced by the smaller of itself and the equation's value, new entries used at once. A list
+// is kept as what is gone of D, entry by entry.
+fn one_round<'a>(
+    n: usize,
+    m: u32,
+    conflict: &'a [u16; tables::PAIRS],
+    remainder: &'a [u16; tables::PAIRS],
+    work: &'a [u16; Flow::MOST],
+    deadline: &'a [u16; Flow::MOST],
+    whole_conflict: &'a [u32; Flow::MOST],
+    whole_work: &'a [u32; Flow::MOST],
+    list: [u16; Flow::MOST],
+) -> Round
+    requires { ⌜ (n ≤ 64) × (0 < m) × Below (now deadline) list n ⌝ }
+    requires { ⌜ Fits (tablesOf (now conflict) (now remainder) (now work) (now deadline) (now «whole_conflict») (now «whole_work»)) n ⌝ }
+    ensures { λ r. ⌜ RoundFor (tablesOf (now (conflict .entry)) (now (remainder .entry)) (now (work .entry)) (now (deadline .entry)) (now («whole_conflict» .entry)) (now («whole_work» .entry))) n m list (r .gone) (r .changed) ⌝ }
+    ensures { λ r. ⌜ Below (now (deadline .entry)) (r .gone) n ⌝ }
+{
+    let mut gone = list;
+    let mut changed = false;
+    let mut k: usize = 0;
+    while k < n {
+        // Written only where it changes: a store in every turn would hold up the next turn's sums.
+        let old = list[k];
+        let x = equation::value(
+            k,
+            m,
+            conflict,
+            remainder,
+            work,
+            deadline,
+            whole_conflict,
+            whole_work,
+            &gone,
+        );
+        let next = numbers::fall(deadline[k], x);
+        if old < next {
+            gone[k] = next;
+            changed = true;
+            k += 1;
+        } else {
+            k += 1;
+        }
+    }
+    Round { gone, changed }
+}
 
 // What the rounds reach, and their number.
 pub struct Reach {
@@ -17,8 +73,8 @@ pub struct Reach {
 // The rounds, from v = D to the first that changes nothing, which counts.
 pub fn rounds<'a>(
     s: FlowSet,
-    conflict: &'a [u16; grid::PAIRS],
-    remainder: &'a [u16; grid::PAIRS],
+    conflict: &'a [u16; tables::PAIRS],
+    remainder: &'a [u16; tables::PAIRS],
     work: &'a [u16; Flow::MOST],
     deadline: &'a [u16; Flow::MOST],
     whole_conflict: &'a [u32; Flow::MOST],
@@ -34,7 +90,7 @@ pub fn rounds<'a>(
     let mut count: u32 = 0;
     let mut going = true;
     while going {
-        let r = round::one_round(
+        let r = one_round(
             s.count as usize,
             m,
             conflict,

@@ -9,7 +9,7 @@ use Rattle.model.specs.declared.answers.Refusal.{Refusal}
 use Rattle.model.specs.declared.answers.Refusal.the-variants.{BadForm}
 use Rattle.model.specs.Limits.{mostNodes}
 use Rattle.document.specs.Reader.{flowFault, pad}
-use Rattle.lines.specs.declared.reading.Row.{Row}
+use Rattle.lines.specs.declared.Row.{Row}
 
 -- the number at this place of a row
 abbrev pub numberAt : Row → ℕ → ℕ

@@ -7,7 +7,7 @@ ghost use Rattle.document.specs.Program.{runLines};
 ghost use Rattle.puts.specs.Stores.{Put};
 use model::FlowSet;
 use model::State;
-use printing::put_sends;
+use puts::put_sends;
 
 // The `send` lines of the first twelve slots.
 pub fn put_run(out: &mut [u8], at: usize, s: FlowSet) -> usize
@@ -18,7 +18,7 @@ pub fn put_run(out: &mut [u8], at: usize, s: FlowSet) -> usize
     let mut place = at;
     let mut t: usize = 0;
     while t < 12 {
-        let a = machine::step(s, st);
+        let a = slot::step_accepted(s, st);
         let sent = a.sent;
         place = put_sends(out, place, sent, a.sends);
         let next = a.next;

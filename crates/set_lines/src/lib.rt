@@ -5,7 +5,7 @@ ghost use Rattle.document.specs.Reader.{flowLines, flowNumbers, textOf};
 ghost use Rattle.model.specs.Sets.{exact, used};
 ghost use Rattle.document.specs.Text.{flowWord, lineOf};
 ghost use Rattle.puts.specs.Stores.{Put};
-use flow_numbers::flow_numbers;
+use decimals::flow_numbers;
 use model::Flow;
 use model::FlowSet;
 

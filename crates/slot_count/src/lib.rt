@@ -10,9 +10,9 @@ ghost use Rattle.slot_count.specs.Underway.{Underway, SomeRun};
 use choice::choose;
 use model::ChannelMap;
 use model::Flow;
-use tally::Totals;
-use tally::tally;
 use turn::Awaited;
+use turn::Totals;
+use turn::tally;
 use turn::turn;
 
 // How many of the order are left to look at: where none was placed none is ready before the next release.
@@ -29,7 +29,7 @@ pub struct Slotted {
 }
 
 // Slot t from a set's numbers in arrays, once its releases are made.
-pub fn count_slot(
+fn count_slot(
     count: usize,
     ways: usize,
     t: u32,

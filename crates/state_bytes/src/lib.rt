@@ -4,7 +4,7 @@ ghost use lib.ListN.{length, drop, take};
 ghost use Prim.Native.Nat.{_+_, _*_, _<_};
 ghost use mathlib.Core.List.{_++_};
 ghost use Rattle.document.specs.Program.{stateOf, stateBytes, stateLength};
-ghost use Rattle.slot_bytes.specs.Bytes.{slotBytes};
+ghost use Rattle.numbers.specs.Bytes.{slotBytes};
 ghost use Rattle.state_bytes.specs.Bytes.{slotOf, stateIn, withState};
 use model::Flow;
 use model::Slot;
@@ -58,7 +58,7 @@ fn put_slot(b: &mut [u8], t: u32)
     requires { ⌜ length (now b) ≡ stateLength ⌝ }
     ensures { λ r. ⌜ now (b .exit) ≡ slotBytes t ++ drop 4 (now (b .entry)) ⌝ }
 {
-    let bytes = slot_bytes::slot_bytes(t);
+    let bytes = numbers::slot_bytes(t);
     b[0] = bytes[0];
     b[1] = bytes[1];
     b[2] = bytes[2];

@@ -10,10 +10,10 @@ ghost use Rattle.document.specs.Delay.{workAt};
 ghost use Rattle.machinery.specs.Lists.{Through};
 ghost use Rattle.machinery.specs.Dues.{dueIn, hadIn};
 ghost use Rattle.machinery.specs.Links.{Routes};
-use due::due_of;
-use due::had_of;
 use model::Flow;
 use model::FlowSet;
+use packets::due_of;
+use packets::had_of;
 
 // Flow k's tries and route put in their places. A record says nothing of its array's length, so it is said here.
 fn put_route(

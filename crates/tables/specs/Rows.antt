@@ -5,7 +5,7 @@ use Prim.Native.Nat.{ℕ, _*_, _/_, _%_, _≤_, _<_}
 use lib.ListN.{length, getD}
 use Rattle.model.specs.Limits.{mostFlows}
 use Rattle.model.specs.Sums.{sumTo}
-use Rattle.grid.specs.Grid.{pairAt, ofOther, RowsTo, FilledTo}
+use Rattle.tables.specs.Grid.{pairAt, ofOther, RowsTo, FilledTo}
 
 -- a list of numbers that is 0 from place n on
 pub record Short (n : ℕ) (q : List ℕ) : Type 0 where

@@ -8,7 +8,7 @@ use Rattle.model.specs.declared.kinds.FlowSet.{FlowSet}
 use Rattle.model.specs.Sets.{listTo}
 use Rattle.document.specs.Text.{same}
 use Rattle.document.specs.Delay.{ways, basicBound, roundOf, roundsIn, mostRounds, reached, tightBound}
-use Rattle.grid.specs.Grid.{FilledTo}
+use Rattle.tables.specs.Grid.{FilledTo}
 use Rattle.greatest.specs.Rounds.{Between, room}
 use Rattle.tables.specs.Tables.{Tables, Tabled}
 

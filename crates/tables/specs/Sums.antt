@@ -6,7 +6,7 @@ use lib.ListN.{getD}
 use Rattle.model.specs.Limits.{mostFlows}
 use Rattle.model.specs.Sums.{sumTo}
 use Rattle.document.specs.Delay.{joined}
-use Rattle.grid.specs.Grid.{pairAt}
+use Rattle.tables.specs.Grid.{pairAt}
 use Rattle.tables.specs.Tables.{Tables}
 use Rattle.tables.specs.Rows.{SmallRow}
 

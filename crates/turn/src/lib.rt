@@ -1,11 +1,106 @@
+// The releases of a run's slot. Beside each flow's absolute deadline a run keeps the flow's next release, so that a slot without a release
+// costs one comparison and one with a release divides nothing.
+// How many packets a slot delivers and drops, and each flow's next count.
 // A run's slot with its releases made and its packets in order.
 ghost use mathlib.Core.Path.{_≡_};
-ghost use Prim.Native.Nat.{ℕ, _≤_, _<_};
+ghost use Prim.Native.Nat.{ℕ, _≤_, _<_, min, _+_};
 ghost use lib.ListN.{getD, length};
+ghost use Rattle.machinery.specs.Turns.{Released};
+ghost use Rattle.model.specs.Sums.{bit};
+ghost use Rattle.model.specs.Sets.{filterTo};
+ghost use Rattle.machinery.specs.Lists.{Through};
+ghost use Rattle.machinery.specs.Answers.{deliveredBy, droppedBy};
 ghost use Rattle.machinery.specs.Runs.{Line, Turned};
 use model::Flow;
 use order::line_up;
-use release::release;
+use packets::is_delivered;
+use packets::is_dropped;
+
+// The earlier of two slots.
+fn earlier(a: u32, b: u32) -> u32
+    ensures { λ r. ⌜ r ≡ min a b ⌝ }
+{
+    if a <= b { a } else { b }
+}
+
+// The releases of slot t: the packet's absolute deadline, the next release, and a count that starts again. The soonest of the next releases.
+fn release(
+    count: usize,
+    t: u32,
+    period: &[u32; Flow::MOST],
+    deadline: &[u32; Flow::MOST],
+    due: &mut [u32; Flow::MOST],
+    next: &mut [u32; Flow::MOST],
+    sent: &mut [u8; Flow::MOST],
+) -> u32
+    requires { ⌜ (count ≤ 64) × (t ≤ 4000000000) × (length (now due) ≡ 64) × (length (now next) ≡ 64) × (length (now sent) ≡ 64) ⌝ }
+    requires { ⌜ ((k : ℕ) → (getD (now period) k 0 ≤ 65535) × (getD (now deadline) k 0 ≤ 65535)) ⌝ }
+    ensures released { λ r. ⌜ Released count t (now (period .entry)) (now (deadline .entry)) (now (due .entry)) (now (next .entry)) (now (sent .entry)) (now (due .exit)) (now (next .exit)) (now (sent .exit)) ⌝ }
+    ensures soonest { λ r. ⌜ ((k : ℕ) → k < count → r ≤ getD (now (next .exit)) k 0) ⌝ }
+{
+    let mut soonest = 4294967295;
+    let mut k = 0;
+    while k < count {
+        let at = next[k];
+        if at == t {
+            let after = t + period[k];
+            due[k] = t + deadline[k];
+            next[k] = after;
+            sent[k] = 0;
+            soonest = earlier(soonest, after);
+            k += 1;
+        } else {
+            soonest = earlier(soonest, at);
+            k += 1;
+        }
+    }
+    soonest
+}
+
+// One where it is so.
+fn one_if(so: bool) -> u32
+    ensures { λ r. ⌜ (r ≡ bit so) × (r ≤ 1) ⌝ }
+{
+    if so { 1 } else { 0 }
+}
+
+pub struct Totals {
+    pub delivered: u32,
+    pub dropped: u32,
+}
+
+// The deliveries and drops of slot t counted, and each flow's next count: one more where it was placed.
+pub fn tally(
+    count: usize,
+    t: u32,
+    start: &[u32; Flow::MOST],
+    due: &[u32; Flow::MOST],
+    work: &[u8; Flow::MOST],
+    marked: &[u8; Flow::MOST],
+    sent: &mut [u8; Flow::MOST],
+) -> Totals
+    requires { ⌜ (count ≤ 64) × (t ≤ 4000000000) × (length (now sent) ≡ 64) ⌝ }
+    requires { ⌜ ((k : ℕ) → (getD (now sent) k 0 ≤ 64) × (getD (now marked) k 0 ≤ 1)) ⌝ }
+    ensures delivered { λ r. ⌜ r .delivered ≡ length (filterTo (deliveredBy (now (sent .entry)) (now (work .entry)) (now (marked .entry))) count) ⌝ }
+    ensures dropped { λ r. ⌜ r .dropped ≡ length (filterTo (droppedBy t (now (start .entry)) (now (due .entry)) (now (sent .entry)) (now (work .entry)) (now (marked .entry))) count) ⌝ }
+    ensures counts { λ r. ⌜ Through (λ k. getD (now (sent .entry)) k 0 + getD (now (marked .entry)) k 0) count (now (sent .entry)) (now (sent .exit)) ⌝ }
+{
+    let mut delivered = 0;
+    let mut dropped = 0;
+    let mut k = 0;
+    while k < count {
+        let n = sent[k];
+        let one = marked[k];
+        let after = n + one;
+        let got = is_delivered(one, n, work[k]);
+        let lost = is_dropped(t, start[k], due[k], after, work[k]);
+        delivered += one_if(got);
+        dropped += one_if(lost);
+        sent[k] = after;
+        k += 1;
+    }
+    Totals { delivered, dropped }
+}
 
 // No release comes before `soonest`, and until then the first `lined` entries of the order hold every ready packet.
 pub struct Awaited {

@@ -12,7 +12,7 @@ use Rattle.model.specs.declared.answers.Written.{Written}
 use Rattle.model.specs.declared.answers.Refusal.the-variants.{NoRoom}
 use Rattle.model.specs.Refusals.{refusalNumber, good, faultAt, noFault}
 use Rattle.document.specs.Reader.{recordFault, textOf, writeFault, writeAnswer, writeInto}
-use Rattle.room.specs.Room.{answerIf, roomAnswer, roomInto}
+use Rattle.writer.specs.Room.{answerIf, roomAnswer, roomInto}
 
 -- an answer, with the buffer as it leaves it
 pub record Answer (s : FlowSet) (buffer : List ℕ) (w : Written) (out : List ℕ) : Type 0 where

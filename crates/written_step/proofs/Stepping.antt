@@ -12,7 +12,7 @@ use Rattle.model.specs.declared.answers.Written.{Written}
 use Rattle.model.specs.declared.answers.Stepped.{Stepped}
 use Rattle.model.specs.Refusals.{good, faultAt, noFault}
 use Rattle.state_bytes.specs.Bytes.{withState}
-use Rattle.refusals.specs.Early.{refusedWriting}
+use Rattle.written_step.specs.Early.{refusedWriting}
 use Rattle.written_step.specs.Steps.{stepLines, roomFault, stepAnswer, stepState, stepBuffer}
 
 -- the answer, the state and the buffer after a step

@@ -1,16 +1,73 @@
+// What is refused before a slot is made, in its order, and the answer that carries a refusal.
+// How long the lines of a slot's sends are.
 // A step's answer written into what C has lent: the next state and the slot's lines.
 ghost use mathlib.Core.Path.{_≡_};
-ghost use lib.ListN.{length};
+ghost use Rattle.model.specs.Refusals.{faultAt, orElse};
+ghost use Rattle.written_step.specs.Early.{earlyFault, lengthFault, refusedWriting};
+ghost use lib.ListN.{length, take};
+ghost use Rattle.document.specs.Program.{sendLines};
 ghost use Rattle.written_step.specs.Steps.{stepAnswer, stepState, stepBuffer};
+use model::ChannelMap;
 use model::Fault;
 use model::Refusal;
+use model::Send;
 use model::Stepped;
 use model::Written;
-use printing::put_sends;
-use refusals::refused;
-use refusals::refused_by;
-use sends_length::lines_length;
+use puts::put_sends;
 use state_bytes::put_state;
+
+pub fn refused(fault: Fault) -> Written
+    ensures { λ r. ⌜ r ≡ refusedWriting fault ⌝ }
+{
+    Written { fault, length: 0 }
+}
+
+fn refused_by(refusal: Refusal) -> Written
+    ensures { λ r. ⌜ r ≡ refusedWriting (faultAt refusal 0) ⌝ }
+{
+    let fault = Fault { refusal, line: 0 };
+    refused(fault)
+}
+
+// A refusal, if it is one, before what comes later.
+fn or_else(first: Fault, later: Fault) -> Fault
+    ensures { λ r. ⌜ r ≡ orElse first later ⌝ }
+{
+    let refusal = first.refusal;
+    if refusal.code() == 0 { later } else { first }
+}
+
+// 12 for a length other than 68.
+fn length_fault(n: usize) -> Fault
+    ensures { λ r. ⌜ r ≡ lengthFault n ⌝ }
+{
+    if n == state_bytes::LENGTH {
+        Fault {
+            refusal: Refusal::Nothing,
+            line: 0,
+        }
+    } else {
+        Fault {
+            refusal: Refusal::BadState,
+            line: 0,
+        }
+    }
+}
+
+// What is tested before the step: the text's refusals, then the state's length.
+pub fn early(fault: Fault, n: usize) -> Fault
+    ensures { λ r. ⌜ r ≡ earlyFault fault n ⌝ }
+{
+    or_else(fault, length_fault(n))
+}
+
+// The length of a slot's lines: they are put into a buffer of no use.
+fn lines_length(sent: [Send; ChannelMap::MOST], n: u16) -> usize
+    ensures { λ r. ⌜ r ≡ length (sendLines (take n sent)) ⌝ }
+{
+    let mut none = [0u8; 1];
+    put_sends(&mut none, 0, sent, n)
+}
 
 // A step's answer written, if there is room for its lines; a refusal changes nothing.
 pub fn write_step(state: &mut [u8], lines: &mut [u8], a: Stepped) -> Written

@@ -8,9 +8,9 @@ use Rattle.model.specs.Sets.{flowAt, used, links}
 use Rattle.document.specs.Delay.{conflictWork}
 use Rattle.laws.specs.Used.{used-flow}
 use Rattle.marks.specs.Marks.{endsOn}
-use Rattle.grid.specs.Grid.{RowDone, conflictOf}
-use Rattle.grid.proofs.Checked.{good-at, count-at}
-use Rattle.grid.proofs.Fill.{row-start, row-next}
+use Rattle.tables.specs.Grid.{RowDone, conflictOf}
+use Rattle.tables.proofs.Checked.{good-at, count-at}
+use Rattle.tables.proofs.Fill.{row-start, row-next}
 use Rattle.marks.proofs.Routes.{work-ends}
 use borrow.Author.Needs.{needs}
 use Rattle.conflict.proofs.conflict_row.Statement.{statement}

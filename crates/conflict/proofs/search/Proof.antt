@@ -3,9 +3,9 @@ use mathlib.Core.Path.{_≡_}
 use Prim.Native.Nat.{_-_, _≤_}
 use native.Mathlib.Omega.{arith}
 use Rattle.model.specs.Sets.{used}
-use Rattle.grid.specs.Grid.{RowsTo, conflictOf}
-use Rattle.grid.proofs.Checked.{count-at}
-use Rattle.grid.proofs.Fill.{rows-next}
+use Rattle.tables.specs.Grid.{RowsTo, conflictOf}
+use Rattle.tables.proofs.Checked.{count-at}
+use Rattle.tables.proofs.Fill.{rows-next}
 use borrow.Author.Needs.{needs}
 use Rattle.conflict.proofs.search.Statement.{statement}
 use Rattle.conflict.proofs.search.Tie as tie

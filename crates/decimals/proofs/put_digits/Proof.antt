@@ -31,11 +31,8 @@ loop-holds c = (search needs, search needs, digits-start _ _ _ _ (search needs) 
 sub-i : tie.Need-sub-i Inv-loop μ-loop
 sub-i c = digits-left _ _ _ _ _ _ (c .before .loop .inv .2) (c .loop-test .taken)
 
-add-put-at : tie.Need-add-put-at Inv-loop μ-loop
-add-put-at c = search needs
-
-cast-put-at : tie.Need-cast-put-at Inv-loop μ-loop
-cast-put-at c = search needs
+digit-requires : tie.Need-digit-requires Inv-loop μ-loop
+digit-requires c κs = search needs
 
 put-at-requires : tie.Need-put-at-requires Inv-loop μ-loop
 put-at-requires c κs = search needs
@@ -45,14 +42,11 @@ loop-less c = search needs
 
 loop-again : tie.Need-loop-again Inv-loop μ-loop
 loop-again c =
-    let w = c .before .before .before .before .before .loop .inv in
-    (w .0, w .1, digits-more _ _ _ _ _ _ (c .before .before .before .before .before .loop .inv .2) _ _ (c .before .before .before .before .loop-test .taken) refl (c .before .before .put-at .ensures))
+    let w = c .before .before .before .before .before .before .loop .inv in
+    (w .0, w .1, digits-more _ _ _ _ _ _ (c .before .before .before .before .before .before .loop .inv .2) _ _ (c .before .before .before .before .before .loop-test .taken) (c .before .before .before .digit .ensures) (c .before .before .put-at .ensures))
 
-add-put-at-2 : tie.Need-add-put-at-2 Inv-loop μ-loop
-add-put-at-2 c = search needs
-
-cast-put-at-2 : tie.Need-cast-put-at-2 Inv-loop μ-loop
-cast-put-at-2 c = search needs
+digit-requires-2 : tie.Need-digit-requires-2 Inv-loop μ-loop
+digit-requires-2 c κs = search needs
 
 put-at-requires-2 : tie.Need-put-at-requires-2 Inv-loop μ-loop
 put-at-requires-2 c κs = search needs
@@ -62,8 +56,8 @@ same-length c = search needs
 
 returns-2 : tie.Need-returns-2 Inv-loop μ-loop
 returns-2 c =
-    let w = c .before .before .before .before .before .loop .inv in
-    (digits-done _ _ _ _ _ _ (c .before .before .before .before .before .loop .inv .2) _ _ (c .before .before .before .before .loop-test .left) refl (c .before .before .put-at2 .ensures), w .0, w .1)
+    let w = c .before .before .before .before .before .before .loop .inv in
+    (digits-done _ _ _ _ _ _ (c .before .before .before .before .before .before .loop .inv .2) _ _ (c .before .before .before .before .before .loop-test .left) (c .before .before .before .digit2 .ensures) (c .before .before .put-at2 .ensures), w .0, w .1)
 
 pub put-digits-spec : {M : Type 1} → statement M
 put-digits-spec =
@@ -76,13 +70,11 @@ put-digits-spec =
     add-end
     loop-holds
     sub-i
-    add-put-at
-    cast-put-at
+    digit-requires
     put-at-requires
     loop-less
     loop-again
-    add-put-at-2
-    cast-put-at-2
+    digit-requires-2
     put-at-requires-2
     same-length
     returns-2)

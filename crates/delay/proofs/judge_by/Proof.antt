@@ -6,7 +6,7 @@ use Rattle.model.specs.Sets.{used}
 use Rattle.tables.specs.Tables.{Tables, tablesOf}
 use Rattle.tables.specs.Sums.{tableValue, Fits}
 use Rattle.tables.proofs.Carry.{fits-carried}
-use Rattle.grid.proofs.Checked.{ones-pos}
+use Rattle.tables.proofs.Checked.{ones-pos}
 use Rattle.delay.proofs.Results.{basic-carried, tight-carried, values-ext}
 use borrow.Author.Needs.{needs}
 use Rattle.delay.proofs.judge_by.Statement.{statement}

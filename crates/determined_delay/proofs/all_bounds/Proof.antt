@@ -1,4 +1,4 @@
-use Rattle.bounds.specs.Answers.{all-bounds-once}
+use Rattle.tables.specs.Answers.{all-bounds-once}
 use Prim.{tt}
 use Rattle.determined_delay.proofs.all_bounds.Statement.{statement}
 use Rattle.determined_delay.proofs.all_bounds.Tie as tie

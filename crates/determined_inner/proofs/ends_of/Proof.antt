@@ -1,6 +1,6 @@
 use mathlib.Core.Path.{_∙_, ap₂, sym}
 use Prim.Native.Nat.{ℕ}
-use Rattle.ends.specs.declared.Ends.{Ends}
+use Rattle.packets.specs.declared.Ends.{Ends}
 use Rattle.determined_inner.proofs.ends_of.Statement.{statement}
 use Rattle.determined_inner.proofs.ends_of.Tie as tie
 

@@ -7,7 +7,7 @@ use lib.Dec.{lit<}
 use Rattle.model.specs.declared.kinds.Flow.{Flow}
 use Rattle.model.specs.Sets.{used, work}
 use Rattle.laws.specs.Used.{used-flow}
-use Rattle.grid.proofs.Checked.{good-at, count-at, work-small}
+use Rattle.tables.proofs.Checked.{good-at, count-at, work-small}
 use Rattle.division.specs.Divided.{NumbersTo}
 use Rattle.division.proofs.Parts.{numbers-next}
 use borrow.Author.Needs.{needs}

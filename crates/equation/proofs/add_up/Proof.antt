@@ -5,7 +5,7 @@ use native.Mathlib.Omega.{arith}
 use lib.ListN.{getD}
 use Rattle.model.specs.Sums.{sumTo}
 use Rattle.laws.specs.Sums.{sum-next, sum-zero}
-use Rattle.grid.specs.Grid.{pairAt}
+use Rattle.tables.specs.Grid.{pairAt}
 use Rattle.tables.specs.Sums.{cutAt, conflictRow, workRow}
 use borrow.Author.Needs.{needs}
 use Rattle.equation.proofs.add_up.Statement.{statement}

@@ -3,7 +3,7 @@ use mathlib.Core.Path.{_≡_}
 use Prim.Native.Nat.{_-_, _≤_, _<_}
 use native.Mathlib.Omega.{arith}
 use Rattle.model.specs.Sets.{flowAt}
-use Rattle.grid.proofs.Checked.{good-at, count-at}
+use Rattle.tables.proofs.Checked.{good-at, count-at}
 use Rattle.node_rows.specs.Index.{UsersTo}
 use Rattle.node_rows.proofs.Places.{placed-all, users-self, users-none, users-flow}
 use borrow.Author.Needs.{needs}

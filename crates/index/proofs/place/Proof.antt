@@ -2,7 +2,7 @@
 use mathlib.Core.Path.{_≡_}
 use Prim.Native.Nat.{_-_, _≤_}
 use native.Mathlib.Omega.{arith}
-use Rattle.grid.proofs.Checked.{good-at, count-at}
+use Rattle.tables.proofs.Checked.{good-at, count-at}
 use Rattle.node_rows.specs.Index.{PlacedTo}
 use Rattle.node_rows.proofs.Places.{placed-flow}
 use borrow.Author.Needs.{needs}

@@ -3,8 +3,8 @@ use mathlib.Core.Path.{_≡_, refl}
 use Prim.Native.Nat.{ℕ, _-_, _*_, _≤_, _<_}
 use native.Mathlib.Omega.{arith}
 use Rattle.model.specs.Sets.{flowAt, used}
-use Rattle.grid.specs.Grid.{conflictOf}
-use Rattle.grid.proofs.Checked.{good-at, count-at}
+use Rattle.tables.specs.Grid.{conflictOf}
+use Rattle.tables.proofs.Checked.{good-at, count-at}
 use Rattle.node_rows.proofs.Places.{placed-all}
 use Rattle.meetings.specs.Columns.{ColumnsTo}
 use Rattle.meetings.proofs.Links.{columns-start, columns-next, columns-rows, column-ext, work-met}

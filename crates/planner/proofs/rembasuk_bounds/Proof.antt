@@ -3,8 +3,8 @@ use mir.Syntax.{w32}
 use mir.Val.{toZ, ofZ}
 use Rattle.model.specs.declared.answers.Reading.{Reading}
 use Rattle.planner.specs.ForC.{boundsForC, boundsOfReading}
-use Rattle.c_numbers.specs.Numbers.{boundsNumbers}
-use Rattle.c_numbers.proofs.Answers.{bounds-numbers}
+use Rattle.answer_lines.specs.Numbers.{boundsNumbers}
+use Rattle.answer_lines.proofs.Answers.{bounds-numbers}
 use borrow.Author.Needs.{needs}
 use Rattle.planner.proofs.rembasuk_bounds.Statement.{statement}
 use Rattle.planner.proofs.rembasuk_bounds.Tie as tie

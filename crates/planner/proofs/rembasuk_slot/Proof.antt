@@ -4,8 +4,8 @@ use Rattle.model.specs.declared.answers.Reading.{Reading}
 use Rattle.document.specs.Program.{slotState, slotBuffer}
 use Rattle.planner.specs.Slots.{slotAnswer}
 use Rattle.planner.specs.ForC.{slotForC}
-use Rattle.c_numbers.specs.Numbers.{slotNumbers}
-use Rattle.c_numbers.proofs.Answers.{slot-numbers}
+use Rattle.answer_lines.specs.Numbers.{slotNumbers}
+use Rattle.answer_lines.proofs.Answers.{slot-numbers}
 use borrow.Author.Needs.{needs}
 use Rattle.planner.proofs.rembasuk_slot.Statement.{statement}
 use Rattle.planner.proofs.rembasuk_slot.Tie as tie

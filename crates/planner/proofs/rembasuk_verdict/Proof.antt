@@ -1,7 +1,7 @@
 use mathlib.Core.Path.{sym, ap, _∙_}
 use Rattle.planner.specs.ForC.{verdictForC, verdictOfReading}
-use Rattle.c_numbers.specs.Numbers.{verdictNumbers}
-use Rattle.c_numbers.proofs.Answers.{verdict-numbers}
+use Rattle.answer_lines.specs.Numbers.{verdictNumbers}
+use Rattle.answer_lines.proofs.Answers.{verdict-numbers}
 use borrow.Author.Needs.{needs}
 use Rattle.planner.proofs.rembasuk_verdict.Statement.{statement}
 use Rattle.planner.proofs.rembasuk_verdict.Tie as tie

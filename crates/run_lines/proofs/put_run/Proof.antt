@@ -3,6 +3,8 @@ use mathlib.Core.Path.{_≡_, refl, ap, _∙_}
 use Prim.Native.Nat.{_-_, _<_}
 use native.Mathlib.Omega.{arith}
 use Rattle.model.specs.Sets.{used}
+use Rattle.model.specs.Refusals.{good}
+use Rattle.model.specs.declared.answers.Fault.{Fault}
 use Rattle.document.specs.Machine.{stepOf, runOf}
 use Rattle.document.specs.Program.{runLines}
 use Rattle.puts.specs.Stores.{Putting, putting-start, putting-more, putting-done}
@@ -24,8 +26,8 @@ loop-holds : tie.Need-loop-holds Inv-loop μ-loop
 unfolding runLines runOf
 loop-holds c = (c .fresh .ensures, putting-start _ _ _ _ refl (omega arith))
 
-step-requires : tie.Need-step-requires Inv-loop μ-loop
-step-requires c κs = tt
+step-accepted-requires : tie.Need-step-accepted-requires Inv-loop μ-loop
+step-accepted-requires c κs = ap (λ (f : Fault). good (f .refusal)) (c .before .before .before .before .pre)
 
 put-sends-requires : tie.Need-put-sends-requires Inv-loop μ-loop
 put-sends-requires c κs = tt
@@ -41,7 +43,7 @@ loop-again c =
     let o = c .before .before .before .before .before .before .before .before .before .before .before in
     let s = o .args .s in
     let l = c .before .before .before .before .before .before .before .before .loop in
-    let a = c .before .before .before .before .before .before .step in
+    let a = c .before .before .before .before .before .before .step-accepted in
     let e : a .result ≡ stepOf (used s) (runOf (used s) (l .t) .last) = a .ensures ∙ ap (stepOf (used s)) (l .inv .0) in
     let m : s .map .0 < 65536 = o .good .1 .1 .0 .1 .1 .0 .1 .1 .0 .1 in
     let f = run-more s (l .t) (a .result) (o .pre) m (omega arith) e in
@@ -61,7 +63,7 @@ put-run-spec =
     μ-loop
     fresh-requires
     loop-holds
-    step-requires
+    step-accepted-requires
     put-sends-requires
     add-t
     loop-less

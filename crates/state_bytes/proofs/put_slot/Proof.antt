@@ -9,7 +9,7 @@ use Rattle.state_bytes.proofs.put_slot.Statement.{statement}
 use Rattle.state_bytes.proofs.put_slot.Tie as tie
 use Rattle.state_bytes.proofs.put_slot.Reads as reads
 use Rattle.state_bytes.proofs.put_slot.Lts as lts
-use Rattle.slot_bytes.proofs.slot_bytes.Reads as slot-bytes-reads
+use Rattle.numbers.proofs.slot_bytes.Reads as slot-bytes-reads
 
 slot-bytes-requires : tie.Need-slot-bytes-requires
 slot-bytes-requires c κs = search needs

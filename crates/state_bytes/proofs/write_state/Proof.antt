@@ -4,7 +4,7 @@ use Prim.Native.Nat.{ℕ}
 use native.Mathlib.Omega.{arith}
 use lib.ListN.{take, drop}
 use lib.Seq.{drop-at, length-take-le}
-use Rattle.slot_bytes.specs.Bytes.{slotBytes}
+use Rattle.numbers.specs.Bytes.{slotBytes}
 use Rattle.document.specs.Program.{stateBytes}
 use borrow.Author.Needs.{needs}
 use Rattle.state_bytes.proofs.write_state.Statement.{statement}

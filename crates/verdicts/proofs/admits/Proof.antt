@@ -10,7 +10,7 @@ use Rattle.model.specs.Sums.{allTo}
 use Rattle.model.specs.Sets.{used}
 use Rattle.document.specs.Delay.{deadline, admits}
 use Rattle.laws.specs.Used.{used-flow}
-use Rattle.bounds.proofs.Parts.{all-zero, all-next}
+use Rattle.tables.proofs.Parts.{all-zero, all-next}
 use borrow.Author.Needs.{needs}
 use Rattle.verdicts.proofs.admits.Statement.{statement}
 use Rattle.verdicts.proofs.admits.Tie as tie

@@ -5,7 +5,7 @@ use Rattle.model.specs.Refusals.{good}
 use Rattle.document.specs.Reader.{recordFault}
 use Rattle.model.specs.Sets.{used}
 use Rattle.laws.specs.Accepted.{accepted}
-use Rattle.bounds.proofs.Parts.{verdict-made, verdict-refused, passed-by, refused-by}
+use Rattle.tables.proofs.Parts.{verdict-made, verdict-refused, passed-by, refused-by}
 use borrow.Author.Needs.{needs}
 use Rattle.verdicts.proofs.verdict_of.Statement.{statement}
 use Rattle.verdicts.proofs.verdict_of.Tie as tie

@@ -2,9 +2,9 @@ use mathlib.Core.Path.{_≡_, ap, _∙_}
 use Prim.Native.Nat.{_≤_}
 use native.Mathlib.Omega.{arith}
 use lib.ListN.{length}
-use Rattle.printing.specs.Lengths.{put-start}
+use Rattle.puts.specs.Lengths.{put-start}
 use Rattle.written_step.specs.Steps.{stepLines, written}
-use Rattle.refusals.specs.Codes.{is-good, not-good}
+use Rattle.written_step.specs.Codes.{is-good, not-good}
 use Rattle.written_step.proofs.Stepping.{left-refused, left-no-room, left-written}
 use borrow.Author.Needs.{needs}
 use Rattle.written_step.proofs.write_step.Statement.{statement}
@@ -12,10 +12,10 @@ use Rattle.written_step.proofs.write_step.Tie as tie
 use Rattle.written_step.proofs.write_step.Reads as reads
 use Rattle.written_step.proofs.write_step.Lts as lts
 use Rattle.model.proofs.answers.Refusal.code.Reads as code-reads
-use Rattle.sends_length.proofs.lines_length.Reads as lines-length-reads
-use Rattle.refusals.proofs.refused.Reads as refused-reads
-use Rattle.refusals.proofs.refused_by.Reads as refused-by-reads
-use Rattle.printing.proofs.put_sends.Reads as put-sends-reads
+use Rattle.written_step.proofs.lines_length.Reads as lines-length-reads
+use Rattle.written_step.proofs.refused.Reads as refused-reads
+use Rattle.written_step.proofs.refused_by.Reads as refused-by-reads
+use Rattle.puts.proofs.put_sends.Reads as put-sends-reads
 
 code-requires : tie.Need-code-requires
 code-requires c κs = search needs

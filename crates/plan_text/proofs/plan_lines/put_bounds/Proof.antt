@@ -5,7 +5,7 @@ use Prim.Native.Nat.{_+_, _-_}
 use native.Mathlib.Omega.{arith}
 use Rattle.model.specs.Sets.{used}
 use Rattle.document.specs.Program.{boundLines}
-use Rattle.bound_line.specs.BoundText.{boundText}
+use Rattle.answer_lines.specs.BoundText.{boundText}
 use Rattle.puts.specs.Stores.{Putting, putting-start, putting-more, putting-done}
 use Rattle.plan_text.proofs.Lines.{bounds-more}
 use borrow.Author.Needs.{needs}

@@ -2,7 +2,7 @@ use mathlib.Core.Path.{sym, ap, _∙_}
 use Rattle.document.specs.Delay.{boundsOf}
 use Rattle.model.specs.Sets.{used}
 use Rattle.planner.specs.ForC.{boundsOfReading}
-use Rattle.refusals.specs.Codes.{pick-good, pick-refused}
+use Rattle.written_step.specs.Codes.{pick-good, pick-refused}
 use Rattle.planner.proofs.Cut.{bounds-cut}
 use borrow.Author.Needs.{needs}
 use Rattle.planner.proofs.reading.bounds.Statement.{statement}
@@ -11,7 +11,7 @@ use Rattle.planner.proofs.reading.bounds.Reads as reads
 use Rattle.planner.proofs.reading.bounds.Lts as lts
 use Rattle.model.proofs.answers.Refusal.code.Reads as code-reads
 use Rattle.delay.proofs.bounds.Reads as bounds-reads
-use Rattle.c_numbers.proofs.flow_number.Reads as flow-number-reads
+use Rattle.answer_lines.proofs.flow_number.Reads as flow-number-reads
 use Rattle.planner.proofs.reading.refused_bounds.Reads as refused-bounds-reads
 
 code-requires : tie.Need-code-requires

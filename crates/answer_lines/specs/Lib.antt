@@ -1,0 +1,3 @@
+pub mod Margins
+pub mod BoundText
+pub mod Numbers

@@ -1,0 +1,135 @@
+-- `release` takes the flows in turn: one whose next release is t gets its new numbers. Assumes nothing.
+use Rattle.machinery.specs.Lists.{through-none}
+use Rattle.machinery.specs.Turns.{Released, released-now, released-later, soon-set, soon-stay}
+use lib.ListN.{getD, length}
+use native.Mathlib.Omega.{arith}
+use Prim.Native.Nat.{ℕ, _+_, _-_, _≤_, _<_, min}
+use mathlib.Core.Path.{_≡_, refl}
+use borrow.Author.Needs.{needs}
+use Rattle.turn.proofs.release.Statement.{statement}
+use Rattle.turn.proofs.release.Tie as tie
+
+abbrev Inv-loop : tie.InvT-loop
+Inv-loop count t period deadline due₀ next₀ sent₀ soonest₀ k₀ due next sent soonest k =
+    (k ≤ count) × Released k t period deadline due₀ next₀ sent₀ due next sent × ((j : ℕ) → j < k → soonest ≤ getD next j 0)
+
+abbrev μ-loop : tie.MeasureT-loop
+μ-loop count t period deadline due₀ next₀ sent₀ soonest₀ k₀ due next sent soonest k = count - k
+
+loop-holds : tie.Need-loop-holds Inv-loop μ-loop
+loop-holds c = (search needs, record { dues = through-none _ _; nexts = through-none _ _; sents = through-none _ _ }, λ j h. absurd (omega arith))
+
+mul-at : tie.Need-mul-at Inv-loop μ-loop
+mul-at c = search needs
+
+element-copy-out-at : tie.Need-element-copy-out-at Inv-loop μ-loop
+element-copy-out-at c = search needs
+
+mul-after : tie.Need-mul-after Inv-loop μ-loop
+mul-after c = search needs
+
+element-copy-out-after : tie.Need-element-copy-out-after Inv-loop μ-loop
+element-copy-out-after c = search needs
+
+add-after : tie.Need-add-after Inv-loop μ-loop
+add-after c = let h = c .before .before .before .before .before .pre .1 (c .before .before .before .before .loop .k) in omega (arith, c .before .before .before .before .before .pre .0 .1, h .0, h .1)
+
+mul-due : tie.Need-mul-due Inv-loop μ-loop
+mul-due c = search needs
+
+element-copy-out-due : tie.Need-element-copy-out-due Inv-loop μ-loop
+element-copy-out-due c = search needs
+
+add-due : tie.Need-add-due Inv-loop μ-loop
+add-due c = let h = c .before .before .before .before .before .before .pre .1 (c .before .before .before .before .before .loop .k) in omega (arith, c .before .before .before .before .before .before .pre .0 .1, h .0, h .1)
+
+mul-due-2 : tie.Need-mul-due-2 Inv-loop μ-loop
+mul-due-2 c = search needs
+
+element-write-due : tie.Need-element-write-due Inv-loop μ-loop
+element-write-due c = search needs
+
+mul-next : tie.Need-mul-next Inv-loop μ-loop
+mul-next c = search needs
+
+element-write-next : tie.Need-element-write-next Inv-loop μ-loop
+element-write-next c = search needs
+
+element-write-sent : tie.Need-element-write-sent Inv-loop μ-loop
+element-write-sent c = search needs
+
+earlier-requires : tie.Need-earlier-requires Inv-loop μ-loop
+earlier-requires c κs = search needs
+
+add-k : tie.Need-add-k Inv-loop μ-loop
+add-k c = search needs
+
+loop-less : tie.Need-loop-less Inv-loop μ-loop
+loop-less c = search needs
+
+loop-again : tie.Need-loop-again Inv-loop μ-loop
+loop-again c =
+    let v = c .before .before .before .before .before .before .loop in
+    let p = c .before .before .before .before .before .before .before .pre .0 in
+    let l = c .before .before .before .before .before .loop-test .taken in
+    let a = c .before .before .before .before .before .before .before .args in
+    let r = v .inv .1 in (
+      omega (arith, l),
+      released-now (v .k) (a .t) (a .period .now) (a .deadline .now) _ _ _ _ _ _ r (omega (arith, l, p)) (omega (arith, l, p)) (omega (arith, l, p)) (c .before .before .before .if1 .taken),
+      soon-set (v .next) (v .k) _ (v .soonest) _ (omega (arith, l, p, r .nexts .long)) (omega (arith, c .earlier .ensures)) (omega (arith, c .earlier .ensures)) (v .inv .2),
+    )
+
+earlier-requires-2 : tie.Need-earlier-requires-2 Inv-loop μ-loop
+earlier-requires-2 c κs = search needs
+
+add-k-2 : tie.Need-add-k-2 Inv-loop μ-loop
+add-k-2 c = search needs
+
+loop-less-2 : tie.Need-loop-less-2 Inv-loop μ-loop
+loop-less-2 c = search needs
+
+loop-again-2 : tie.Need-loop-again-2 Inv-loop μ-loop
+loop-again-2 c =
+    let v = c .before .before .before .before .loop in
+    let l = c .before .before .before .loop-test .taken in
+    let a = c .before .before .before .before .before .args in (
+      omega (arith, l),
+      released-later (v .k) (a .t) (a .period .now) (a .deadline .now) _ _ _ _ _ _ (v .inv .1) (c .before .if1 .left),
+      soon-stay (v .next) (v .k) (v .soonest) _ (omega (arith, c .earlier2 .ensures)) (omega (arith, c .earlier2 .ensures)) (v .inv .2),
+    )
+
+returns : tie.Need-returns Inv-loop μ-loop
+returns c =
+    let v = c .before .loop in
+    let e : v .k ≡ c .before .before .args .count = search needs in
+    rw (← e) (v .inv .1, v .inv .2)
+
+pub release-spec : {M : Type 1} → statement M
+release-spec =
+    tie.close
+    (tie.spec
+    Inv-loop
+    μ-loop
+    loop-holds
+    mul-at
+    element-copy-out-at
+    mul-after
+    element-copy-out-after
+    add-after
+    mul-due
+    element-copy-out-due
+    add-due
+    mul-due-2
+    element-write-due
+    mul-next
+    element-write-next
+    element-write-sent
+    earlier-requires
+    add-k
+    loop-less
+    loop-again
+    earlier-requires-2
+    add-k-2
+    loop-less-2
+    loop-again-2
+    returns)

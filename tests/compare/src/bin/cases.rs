@@ -1,0 +1,74 @@
+//! Texts that the proved reader reads and the proved writer writes again where they are accepted; records that it writes, and buffers on
+//! either side of a text's length. What must be printed stands in tests/cases/stdout, from document 01 and not from this program.
+//! On each line of standard input: a label, a tab, and the text in one line.
+
+use compare::{read, Fault, Record, Written};
+use second::Set;
+use std::io::Read;
+
+/// The byte that one of the table stands for: `|` a tab, `$` LF, `%` CR, `@` NUL, `<` and `>` 128 and 255, `{`, `}` and `~` the three of a
+/// byte order mark; every other byte is itself.
+fn meant(b: u8) -> u8 {
+    match b {
+        b'|' => 9,
+        b'$' => 10,
+        b'%' => 13,
+        b'@' => 0,
+        b'<' => 128,
+        b'>' => 255,
+        b'{' => 239,
+        b'}' => 187,
+        b'~' => 191,
+        _ => b,
+    }
+}
+
+fn print(label: &str, fault: Fault, length: usize) {
+    println!("{label}\t{}\t{}\t{length}", fault.refusal, fault.line);
+}
+
+/// The reader's number and line, and how many bytes the set is written in; 0 where it is refused, or is not this text again.
+fn text_case(label: &str, text: &[u8]) {
+    let (fault, set) = read(text);
+    let mut out = vec![0; 65536];
+    let n = Record::new(&set).write(&mut out).length;
+    print(label, fault, if out[..n] == *text { n } else { 0 });
+}
+
+fn written(label: &str, set: &Set, size: usize) {
+    let Written { fault, length } = Record::new(set).write(&mut vec![0; size]);
+    print(label, fault, length);
+}
+
+/// A set of one flow, whose text has 26 bytes.
+fn small() -> Set {
+    read(b"set\t3\nflow\t10\t8\t0\t1\t1\t2\t3\n").1
+}
+
+/// It, with so many nodes in every place of the array, and this map and count.
+fn record_case(map: u16, count: u16, nodes: u16) {
+    let mut set = small();
+    set.map = map;
+    set.count = count;
+    let mut flow = set.flows[0];
+    flow.nodes = nodes;
+    set.flows = [flow; 64];
+    written(&format!("record\t{map}\t{count}\t{nodes}"), &set, 4096);
+}
+
+fn main() {
+    let mut table = Vec::new();
+    std::io::stdin().read_to_end(&mut table).expect("the table is read");
+    for line in table.split(|b| *b == b'\n').filter(|line| !line.is_empty()) {
+        let tab = line.iter().position(|b| *b == b'\t').expect("a label and a tab");
+        let text: Vec<u8> = line[tab + 1..].iter().map(|b| meant(*b)).collect();
+        text_case(&String::from_utf8_lossy(&line[..tab]), &text);
+    }
+    for size in [0, 25, 26, 27] {
+        written(&format!("buffer\t{size}"), &small(), size);
+    }
+    let shapes = [(0, 0, 3), (0, 1, 18), (3, 0, 3), (3, 1, 1), (3, 1, 2), (3, 1, 3), (3, 1, 18), (3, 1, 65535), (3, 64, 3), (3, 65, 3), (3, 70, 3), (3, 70, 18)];
+    for (map, count, nodes) in shapes {
+        record_case(map, count, nodes);
+    }
+}
