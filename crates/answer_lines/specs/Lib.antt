@@ -1,3 +1,6 @@
 pub mod Margins
 pub mod BoundText
 pub mod Numbers
+pub mod Codes
+pub mod Early
+pub mod Steps

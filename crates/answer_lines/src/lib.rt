@@ -1,21 +1,33 @@
 // Answers as they are told: C's numbers, and the lines of the plan. The margin and the `bound` line of a flow, the `verdict` line, and
 // input that is longer than any set's text: the program refuses it unread.
+// What is refused before a slot is made, in its order, and the answer that carries a refusal.
+// How long the lines of a slot's sends are.
+// A step's answer written into what C has lent: the next state and the slot's lines.
 ghost use mathlib.Core.List.{_∷_};
 ghost use Rattle.puts.specs.Stores.{Put};
 ghost use Rattle.answer_lines.specs.Margins.{marginText};
 ghost use mathlib.Core.Path.{_≡_};
 ghost use Rattle.model.specs.Sums.{bit};
-ghost use Rattle.document.specs.Program.{verdictLine, refusedLine};
+ghost use Rattle.document.specs.Program.{verdictLine, refusedLine, sendLines};
 ghost use mathlib.Core.Bool.{cond};
 ghost use lib.Dec.{ltb};
-ghost use Rattle.model.specs.Refusals.{faultAt};
+ghost use Rattle.model.specs.Refusals.{faultAt, orElse};
 ghost use Rattle.model.specs.declared.answers.Refusal.the-variants.{NoRoom};
 ghost use Rattle.answer_lines.specs.BoundText.{boundText};
+ghost use Rattle.answer_lines.specs.Early.{earlyFault, lengthFault, refusedWriting};
+ghost use lib.ListN.{length, take};
+ghost use Rattle.answer_lines.specs.Steps.{stepAnswer, stepState, stepBuffer};
 use model::Bounds;
+use model::ChannelMap;
 use model::Fault;
 use model::Refusal;
+use model::Send;
+use model::Stepped;
 use model::Verdict;
+use model::Written;
 use puts::put_refused;
+use puts::put_sends;
+use state_bytes::put_state;
 
 #[repr(C)]
 pub struct VerdictAnswer {
@@ -111,4 +123,93 @@ pub fn put_bound(out: &mut [u8], at: usize, k: u16, b: Bounds) -> usize
     let second = puts::put_fields(out, first, &numbers);
     let third = put_margin(out, second, deadline, b.tightened);
     puts::put_byte(out, third, 10)
+}
+
+pub fn refused(fault: Fault) -> Written
+    ensures { λ r. ⌜ r ≡ refusedWriting fault ⌝ }
+{
+    Written { fault, length: 0 }
+}
+
+fn refused_by(refusal: Refusal) -> Written
+    ensures { λ r. ⌜ r ≡ refusedWriting (faultAt refusal 0) ⌝ }
+{
+    let fault = Fault { refusal, line: 0 };
+    refused(fault)
+}
+
+// A refusal, if it is one, before what comes later.
+fn or_else(first: Fault, later: Fault) -> Fault
+    ensures { λ r. ⌜ r ≡ orElse first later ⌝ }
+{
+    let refusal = first.refusal;
+    if refusal.code() == 0 { later } else { first }
+}
+
+// 12 for a length other than 68.
+fn length_fault(n: usize) -> Fault
+    ensures { λ r. ⌜ r ≡ lengthFault n ⌝ }
+{
+    if n == state_bytes::LENGTH {
+        Fault {
+            refusal: Refusal::Nothing,
+            line: 0,
+        }
+    } else {
+        Fault {
+            refusal: Refusal::BadState,
+            line: 0,
+        }
+    }
+}
+
+// What is tested before the step: the text's refusals, then the state's length.
+pub fn early(fault: Fault, n: usize) -> Fault
+    ensures { λ r. ⌜ r ≡ earlyFault fault n ⌝ }
+{
+    or_else(fault, length_fault(n))
+}
+
+// The length of a slot's lines: they are put into a buffer of no use.
+fn lines_length(sent: [Send; ChannelMap::MOST], n: u16) -> usize
+    ensures { λ r. ⌜ r ≡ length (sendLines (take n sent)) ⌝ }
+{
+    let mut none = [0u8; 1];
+    put_sends(&mut none, 0, sent, n)
+}
+
+// A slot's lines at a buffer's start, as far as it goes; where they end.
+fn put_lines(lines: &mut [u8], sent: [Send; ChannelMap::MOST], n: u16) -> usize
+    ensures { λ r. ⌜ Put (now (lines .entry)) 0 (sendLines (take n sent)) (now (lines .exit)) r ⌝ }
+{
+    put_sends(lines, 0, sent, n)
+}
+
+// A step's answer written, if there is room for its lines; a refusal changes nothing.
+pub fn write_step(state: &mut [u8], lines: &mut [u8], a: Stepped) -> Written
+    ensures { λ r. ⌜ r ≡ stepAnswer a (length (now (lines .entry))) ⌝ }
+    ensures { λ r. ⌜ now (state .exit) ≡ stepState a (now (state .entry)) (length (now (lines .entry))) ⌝ }
+    ensures { λ r. ⌜ now (lines .exit) ≡ stepBuffer a (now (lines .entry)) ⌝ }
+{
+    let fault = a.fault;
+    let refusal = fault.refusal;
+    if refusal.code() != 0 {
+        return refused(fault);
+    }
+    let sent = a.sent;
+    let n = lines_length(sent, a.sends);
+    if lines.len() < n {
+        return refused_by(Refusal::NoRoom);
+    }
+    let next = a.next;
+    put_state(state, next);
+    put_lines(lines, sent, a.sends);
+    let none = Fault {
+        refusal: Refusal::Nothing,
+        line: 0,
+    };
+    Written {
+        fault: none,
+        length: n,
+    }
 }

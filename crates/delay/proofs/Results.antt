@@ -15,7 +15,7 @@ use Rattle.model.specs.Limits.{mostFlows}
 use Rattle.model.specs.Refusals.{good, noFault}
 use Rattle.document.specs.Reader.{recordFault}
 use Rattle.document.specs.Delay.{ways, basicBound, reached, tightBound, boundsOf, deadlines}
-use Rattle.greatest.specs.Values.{list-entry, value-at-deadlines, deadlines-entry}
+use Rattle.laws.specs.Values.{list-entry, value-at-deadlines, deadlines-entry}
 use Rattle.tables.proofs.Fill.{zeros}
 use Rattle.tables.specs.Tables.{Tables, Tabled}
 use Rattle.tables.specs.Sums.{tableValue}

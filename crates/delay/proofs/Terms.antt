@@ -15,12 +15,12 @@ use Rattle.model.specs.Sets.{flowAt}
 use Rattle.document.specs.Delay.{workAt, wholePackets, overOthers}
 use Rattle.laws.specs.Accepted.{Accepted}
 use Rattle.laws.specs.Sums.{sum-ext}
-use Rattle.greatest.specs.Values.{conflict-le-work}
+use Rattle.laws.specs.Values.{conflict-le-work}
 use Rattle.tables.specs.Grid.{pairAt, ofOther, conflictOf, RowsTo, RowDone, FilledTo}
 use Rattle.tables.proofs.Checked.{work-small}
 use Rattle.tables.proofs.Fill.{zeros, rows-start, rows-next, filled-start, filled-next}
-use Rattle.division.specs.Divided.{NumbersTo}
-use Rattle.division.proofs.Parts.{numbers-start}
+use Rattle.pairs.specs.Divided.{NumbersTo}
+use Rattle.pairs.proofs.Parts.{numbers-start}
 use Rattle.tables.specs.Tables.{Tables, tablesOf, blankTables, wholeWork, Tabled}
 use Rattle.tables.specs.Rows.{Short, remainderRow, wholeRow, SmallRow, RowsDone}
 

@@ -61,7 +61,7 @@ fn tabulate(
     ensures { λ r. ⌜ Tabled (used s) (tablesOf (now (conflict .exit)) (now (remainder .exit)) (now (work .exit)) (now (deadline .exit)) (now («whole_conflict» .exit)) (now («whole_work» .exit))) ⌝ }
 {
     let mut period = [0u16; Flow::MOST];
-    division::numbers(s, &mut period, deadline, work);
+    pairs::numbers(s, &mut period, deadline, work);
     meetings::conflicts(s, conflict);
     rows(
         s.count as usize,

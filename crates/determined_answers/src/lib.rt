@@ -85,16 +85,16 @@ pub fn flow_number(flow: u32, count: u16) -> TwoNumbers
 pub fn refused(fault: Fault) -> TwoWritten
     ensures { λ r. ⌜ r .0 ≡ r .1 ⌝ }
 {
-    let a = written_step::refused(fault);
-    let b = written_step::refused(fault);
+    let a = answer_lines::refused(fault);
+    let b = answer_lines::refused(fault);
     TwoWritten(a, b)
 }
 
 pub fn early(fault: Fault, n: usize) -> TwoFaults
     ensures { λ r. ⌜ r .0 ≡ r .1 ⌝ }
 {
-    let a = written_step::early(fault, n);
-    let b = written_step::early(fault, n);
+    let a = answer_lines::early(fault, n);
+    let b = answer_lines::early(fault, n);
     TwoFaults(a, b)
 }
 
@@ -104,7 +104,7 @@ pub fn write_step(s: &mut [u8], u: &mut [u8], x: &mut [u8], y: &mut [u8], a: Ste
         → ((r .0 ≡ r .1) × (now (s .exit) ≡ now (u .exit)) × (now (x .exit) ≡ now (y .exit))))
         ⌝ }
 {
-    let first = written_step::write_step(s, x, a);
-    let second = written_step::write_step(u, y, a);
+    let first = answer_lines::write_step(s, x, a);
+    let second = answer_lines::write_step(u, y, a);
     TwoWritten(first, second)
 }

@@ -104,8 +104,8 @@ pub fn put_run(x: &mut [u8], y: &mut [u8], at: usize, s: FlowSet) -> TwoPlaces
     requires { ⌜ recordFault (used s) ≡ noFault ⌝ }
     ensures { λ r. ⌜ ((now (x .entry) ≡ now (y .entry)) → ((r .0 ≡ r .1) × (now (x .exit) ≡ now (y .exit)))) ⌝ }
 {
-    let a = run_lines::put_run(x, at, s);
-    let b = run_lines::put_run(y, at, s);
+    let a = runs::put_run(x, at, s);
+    let b = runs::put_run(y, at, s);
     TwoPlaces(a, b)
 }
 

@@ -2,8 +2,7 @@
 // from the contracts alone, since nothing else is seen from here. Here: functions that only crates of the planner call, with what they ask.
 ghost use mathlib.Core.Path.{_≡_};
 ghost use mathlib.Core.Bool.{true};
-ghost use mathlib.Core.List.{[]};
-ghost use Prim.Native.Nat.{ℕ, _/_, _≤_, _<_};
+ghost use Prim.Native.Nat.{_/_, _≤_, _<_};
 ghost use lib.ListN.{getD};
 ghost use Rattle.model.specs.Refusals.{good};
 ghost use Rattle.document.specs.Reader.{recordFault};

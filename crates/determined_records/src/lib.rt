@@ -143,8 +143,8 @@ pub fn refusal_code(refusal: Refusal) -> TwoU16
 pub fn map_fault(bits: u16) -> TwoRefusal
     ensures { λ r. ⌜ r .0 ≡ r .1 ⌝ }
 {
-    let a = flow_rules::map_fault(bits);
-    let b = flow_rules::map_fault(bits);
+    let a = rules::map_fault(bits);
+    let b = rules::map_fault(bits);
     TwoRefusal(a, b)
 }
 
@@ -158,8 +158,8 @@ pub fn flow_fault(
 ) -> TwoRefusal
     ensures { λ r. ⌜ r .0 ≡ r .1 ⌝ }
 {
-    let a = flow_rules::flow_fault(k, period, deadline, tries, nodes, route);
-    let b = flow_rules::flow_fault(k, period, deadline, tries, nodes, route);
+    let a = rules::flow_fault(k, period, deadline, tries, nodes, route);
+    let b = rules::flow_fault(k, period, deadline, tries, nodes, route);
     TwoRefusal(a, b)
 }
 
@@ -192,22 +192,6 @@ pub fn line_at(s: &[u8], from: usize, word: &[u8]) -> TwoRow
     let a = lines::line_at(s, from, word);
     let b = lines::line_at(s, from, word);
     TwoRow(a, b)
-}
-
-pub fn row_fault(k: usize, row: Row) -> TwoRefusal
-    ensures { λ r. ⌜ r .0 ≡ r .1 ⌝ }
-{
-    let a = row_rules::flow_fault(k, row);
-    let b = row_rules::flow_fault(k, row);
-    TwoRefusal(a, b)
-}
-
-pub fn flow_with(numbers: [u16; Row::MOST], nodes: u16) -> TwoFlow
-    ensures { λ r. ⌜ r .0 ≡ r .1 ⌝ }
-{
-    let a = row_rules::flow_with(numbers, nodes);
-    let b = row_rules::flow_with(numbers, nodes);
-    TwoFlow(a, b)
 }
 
 pub fn flow_numbers(f: Flow) -> TwoNumbers

@@ -14,7 +14,7 @@ use Rattle.model.specs.Limits.{mostFlows}
 use Rattle.model.specs.Sums.{sumTo}
 use Rattle.laws.specs.Sums.{sum-ext, sum-cut}
 use Rattle.tables.specs.Grid.{pairAt, ofOther, RowDone}
-use Rattle.division.specs.Divided.{Divided}
+use Rattle.pairs.specs.Divided.{Divided}
 use Rattle.tables.specs.Rows.{Short, wholeRow}
 
 -- nothing of the flow itself

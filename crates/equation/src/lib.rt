@@ -172,7 +172,7 @@ pub fn row<'a>(
     ensures { λ r. ⌜ r .conflict ≡ wholeRow deadline (now (period .entry)) n k (λ l. pairAt (now (conflict .entry)) k l) ⌝ }
     ensures { λ r. ⌜ (r .work ≡ wholeRow deadline (now (period .entry)) n k (λ l. getD (now (work .entry)) l 0)) × (r .work ≤ 268431360) ⌝ }
 {
-    division::divide(k, n, deadline, period, q, remainder);
+    pairs::divide(k, n, deadline, period, q, remainder);
     q[k] = 0;
     remainder[k * Flow::MOST + k] = 0;
     whole_of(k, conflict, work, q)

@@ -1,3 +1,12 @@
 pub mod Sums
 pub mod Used
 pub mod Accepted
+pub mod Values
+pub mod Rounds
+pub mod Largest
+pub mod Promises
+pub mod Waiting
+pub mod Load
+pub mod Within
+pub mod Members
+pub mod Choice

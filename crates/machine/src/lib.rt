@@ -2,7 +2,7 @@
 // The slot machine: one step of it, and a run of many.
 ghost use mathlib.Core.Path.{_≡_};
 ghost use mathlib.Core.Bool.{true};
-ghost use Prim.Native.Nat.{ℕ, _≤_, min};
+ghost use Prim.Native.Nat.{_≤_, min};
 ghost use lib.ListN.{length};
 ghost use Rattle.model.specs.Refusals.{good};
 ghost use Rattle.document.specs.Reader.{recordFault};
@@ -11,7 +11,6 @@ ghost use Rattle.document.specs.Machine.{runOf, stepOf};
 ghost use Rattle.machinery.specs.Links.{Routes};
 ghost use Rattle.machinery.specs.Slots.{Prepared};
 ghost use Rattle.promise.specs.Demand.{Admitted};
-use model::ChannelMap;
 use model::Fault;
 use model::Flow;
 use model::FlowSet;
@@ -19,8 +18,7 @@ use model::Ran;
 use model::Slot;
 use model::State;
 use model::Stepped;
-use passing::Sums;
-use passing::pass_slots;
+use runs::pass_slots;
 use slot::step_accepted;
 use step_parts::refused;
 use table::dues;

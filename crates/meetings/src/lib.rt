@@ -97,7 +97,7 @@ pub fn conflicts(s: FlowSet, t: &mut [u16; tables::PAIRS])
     ensures { λ r. ⌜ RowsTo (conflictOf (used s)) (s .count) (s .count) (now (t .exit)) ⌝ }
 {
     if s.count < MANY {
-        conflict::search(s, t);
+        pairs::search(s, t);
     } else {
         many(s, t);
     }

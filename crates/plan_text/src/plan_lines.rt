@@ -11,7 +11,7 @@ ghost use Rattle.tables.specs.Answers.{AllBoundsOf};
 use answer_lines::put_bound;
 use answer_lines::put_verdict;
 use model::FlowSet;
-use run_lines::put_run;
+use runs::put_run;
 use tables::AllBounds;
 
 // The `bound` lines of a set's flows, from the bounds of all.

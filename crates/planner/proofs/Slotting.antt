@@ -27,8 +27,8 @@ use Rattle.laws.specs.Used.{used-map}
 use Rattle.laws.specs.Accepted.{or-else-good}
 use Rattle.machinery.specs.Steps.{lines-of}
 use Rattle.state_bytes.specs.Bytes.{with-state}
-use Rattle.written_step.specs.Early.{refusedWriting, earlyFault}
-use Rattle.written_step.specs.Steps.{stepLines, roomFault, stepAnswer, stepState, stepBuffer}
+use Rattle.answer_lines.specs.Early.{refusedWriting, earlyFault}
+use Rattle.answer_lines.specs.Steps.{stepLines, roomFault, stepAnswer, stepState, stepBuffer}
 use Rattle.planner.specs.Slots.{slotAnswer}
 
 abbrev stepFor : Reading → List ℕ → Stepped

@@ -3,12 +3,12 @@ ghost use mathlib.Core.Path.{_≡_};
 ghost use lib.ListN.{length};
 ghost use Rattle.document.specs.Program.{slotState, slotBuffer};
 ghost use Rattle.planner.specs.Slots.{slotAnswer};
+use answer_lines::early;
+use answer_lines::refused;
+use answer_lines::write_step;
 use model::Reading;
 use model::Written;
 use state_bytes::state_of;
-use written_step::early;
-use written_step::refused;
-use written_step::write_step;
 
 // One slot of a set that was read.
 pub fn slot(reading: Reading, state: &mut [u8], lines: &mut [u8]) -> Written

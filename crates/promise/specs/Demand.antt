@@ -25,8 +25,8 @@ use Rattle.document.specs.Machine.{droppedAt, stepOf, runOf}
 use Rattle.laws.specs.Sums.{and-l, and-r}
 use Rattle.laws.specs.Used.{used-count, used-flow, used-map}
 use Rattle.laws.specs.Accepted.{accepted}
-use Rattle.greatest.specs.Values.{value-at-deadlines}
-use Rattle.greatest.specs.Rounds.{Between, between-deadlines, reached-between, accepted-fits}
+use Rattle.laws.specs.Values.{value-at-deadlines}
+use Rattle.laws.specs.Rounds.{Between, between-deadlines, reached-between, accepted-fits}
 use Rattle.promise.specs.Promise.{report, Apart, Kept, Held, PromiseWith, Promise}
 use Rattle.promise.specs.Run.{stateAt, report-step}
 use Rattle.promise.specs.Reports.{drops-eq, dropped-eq, filter-at}

@@ -22,8 +22,8 @@ use Rattle.document.specs.Delay.{ways, workAt}
 use Rattle.document.specs.Machine.{ready, nextCount, released, releaseAt, countAt, hadAt, readyAt, dueAt, ahead, clashAt, placedAt, countAfter, droppedAt, nextState, badState, stepFault, stepIf, stepOf, runOf}
 use Rattle.laws.specs.Sums.{any-find, and-l, and-r, and-i, or-case, or-l, or-r}
 use Rattle.laws.specs.Accepted.{accepted}
-use Rattle.greatest.specs.Values.{list-length, list-entry}
-use Rattle.argument.specs.Choice.{Priority, Chosen, chosen}
+use Rattle.laws.specs.Values.{list-length, list-entry}
+use Rattle.laws.specs.Choice.{Priority, Chosen, chosen}
 use Rattle.promise.specs.Promise.{report}
 
 -- the state in which slot t of the run begins

@@ -24,9 +24,9 @@ use Rattle.document.specs.Delay.{ways, period, deadline, workAt, touches, confl
 use Rattle.document.specs.Machine.{had, releaseAt, deadlineAt, nextCount, countAt, hadAt, readyAt, dueAt, linkAt, ahead, clashAt, placedAt, countAfter}
 use Rattle.laws.specs.Sums.{count, sum-ext, sum-const, sum-split}
 use Rattle.laws.specs.Accepted.{Accepted, accepted, ones-pos}
-use Rattle.argument.specs.Members.{memb-none, memb-tail, memb-case, memb-head, one-of, some-of}
-use Rattle.argument.specs.Load as load
-use Rattle.argument.specs.Within.{Ready, Schedule, value, others}
+use Rattle.laws.specs.Members.{memb-none, memb-tail, memb-case, memb-head, one-of, some-of}
+use Rattle.laws.specs.Load as load
+use Rattle.laws.specs.Within.{Ready, Schedule, value, others}
 use Rattle.promise.specs.Run.{stateAt, order, ahead-case, choice, ready-case, ready-by, state-slot, count-next}
 
 -- flow k is placed in slot t of the run

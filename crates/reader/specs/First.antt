@@ -20,7 +20,7 @@ use Rattle.lines.specs.Fields.{lines-line, formed-line, numbers-line, drop-line
 use Rattle.lines.specs.declared.Row.{Row}
 use Rattle.lines.specs.Answers.{mostNumbers, rowIf, rowIn}
 use Rattle.reader.specs.FirstJudged.{firstRowFault}
-use Rattle.row_rules.specs.Pads.{pad-at}
+use Rattle.reader.specs.Pads.{pad-at}
 use Rattle.reader.specs.Judged.{setWith, answerOf}
 use Rattle.reader.specs.Judging.{formed-first, row-formed}
 

@@ -7,7 +7,7 @@ use Rattle.model.specs.declared.answers.Refusal.{Refusal}
 use Rattle.model.specs.Refusals.{faultAt}
 use Rattle.model.specs.Sets.{blankSet}
 use Rattle.lines.specs.declared.Row.{Row}
-use Rattle.row_rules.specs.Judged.{flowWith}
+use Rattle.reader.specs.FlowJudged.{flowWith}
 
 -- the flow of a row
 abbrev pub flowOfRow : Row → Flow

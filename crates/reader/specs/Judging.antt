@@ -25,8 +25,8 @@ use Rattle.lines.specs.declared.Row.{Row}
 use Rattle.lines.specs.Answers.{mostNumbers, rowIf, rowIn}
 use Rattle.lines.specs.Places.{line, after}
 use Rattle.lines.specs.Fields.{lines-line, formed-line, numbers-line, drop-line}
-use Rattle.row_rules.specs.Judged.{nodesOf, flowRowFault}
-use Rattle.row_rules.specs.Pads.{pad-at, pad-drop, pad-take}
+use Rattle.reader.specs.FlowJudged.{nodesOf, flowRowFault}
+use Rattle.reader.specs.Pads.{pad-at, pad-drop, pad-take}
 use Rattle.reader.specs.Judged.{flowOfRow, setWith, answerOf}
 
 -- a line read after the flows of t

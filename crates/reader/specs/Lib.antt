@@ -1,3 +1,5 @@
+pub mod FlowJudged
+pub mod Pads
 pub mod FirstJudged
 pub mod Judged
 pub mod Judging

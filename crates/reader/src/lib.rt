@@ -1,7 +1,9 @@
+// What a flow line of a set's text is refused for, judged by its row: its form first, then rules 3 to 9; and the flow that it gives.
 // What the first line of a set's text is refused for, judged by its row: its form first, then rule 2.
 // The flow lines of a set's text, read in turn: the first faulty line decides.
 // The reader: line by line, the first faulty line decides, and within it the lowest of 1 to 9.
 ghost use mathlib.Core.Path.{_≡_};
+ghost use Rattle.reader.specs.FlowJudged.{flowRowFault, flowWith, nodesOf};
 ghost use Rattle.reader.specs.FirstJudged.{firstRowFault};
 ghost use Prim.Native.Nat.{_≤_, _+_};
 ghost use lib.ListN.{drop};
@@ -16,8 +18,49 @@ use model::Flow;
 use model::FlowSet;
 use model::Reading;
 use model::Refusal;
-use row_rules::flow_fault;
-use row_rules::flow_with;
+use model::Span;
+
+// The nodes among a flow line's numbers.
+fn route_of(numbers: [u16; Row::MOST]) -> [u16; Flow::MOST_NODES]
+    ensures { λ r. ⌜ r ≡ nodesOf numbers ⌝ }
+{
+    let mut route = [0u16; Flow::MOST_NODES];
+    let mut i = 0usize;
+    while i < Flow::MOST_NODES {
+        route[i] = numbers[4 + i];
+        i += 1;
+    }
+    route
+}
+
+// The refusal of the line of flow number k: its form, then rules 3 to 9.
+fn flow_fault(k: usize, row: Row) -> Refusal
+    ensures { λ r. ⌜ r ≡ flowRowFault k row ⌝ }
+{
+    if row.formed {
+        if 4 <= row.count {
+            let numbers = row.numbers;
+            let route = route_of(numbers);
+            return rules::flow_fault(k, numbers[0], numbers[1], numbers[3], row.count - 4, route);
+        }
+    }
+    Refusal::BadForm
+}
+
+// The flow that a flow line's numbers make, with so many nodes.
+fn flow_with(numbers: [u16; Row::MOST], nodes: u16) -> Flow
+    ensures { λ r. ⌜ r ≡ flowWith numbers nodes ⌝ }
+{
+    let route = route_of(numbers);
+    Flow {
+        period: Span(numbers[0]),
+        deadline: Span(numbers[1]),
+        start: numbers[2],
+        tries: numbers[3],
+        nodes,
+        route,
+    }
+}
 
 // The first line's refusal: its form, then rule 2.
 fn first_fault(row: Row) -> Refusal
@@ -25,7 +68,7 @@ fn first_fault(row: Row) -> Refusal
 {
     if row.formed {
         if row.count == 1 {
-            return flow_rules::map_fault(row.numbers[0]);
+            return rules::map_fault(row.numbers[0]);
         }
     }
     Refusal::BadForm

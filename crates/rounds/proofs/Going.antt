@@ -13,8 +13,8 @@ use Rattle.document.specs.Text.{same}
 use Rattle.model.specs.Sets.{listTo}
 use Rattle.document.specs.Delay.{deadline, workAt, roundOf, Reached, roundsIn, mostRounds, reached, deadlines}
 use Rattle.laws.specs.Sums.{sum-le, sum-const}
-use Rattle.greatest.specs.Values.{list-length, list-entry, deadlines-length, deadlines-entry}
-use Rattle.greatest.specs.Rounds.{same-eq, Between, between-deadlines, between-round, WorkFits, room-deadlines, round-falls, rounds-stop, rounds-on}
+use Rattle.laws.specs.Values.{list-length, list-entry, deadlines-length, deadlines-entry}
+use Rattle.laws.specs.Rounds.{same-eq, Between, between-deadlines, between-round, WorkFits, room-deadlines, round-falls, rounds-stop, rounds-on}
 use Rattle.tables.specs.Grid.{FilledTo}
 use Rattle.tables.proofs.Fill.{zeros}
 use Rattle.tables.specs.Steps.{leftOf, Below, RoundDone, Going}

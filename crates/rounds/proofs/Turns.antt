@@ -13,8 +13,8 @@ use Rattle.model.specs.declared.kinds.FlowSet.{FlowSet}
 use Rattle.model.specs.Limits.{mostFlows}
 use Rattle.document.specs.Text.{same}
 use Rattle.document.specs.Delay.{valueAt, lowered, roundTo}
-use Rattle.greatest.specs.Values.{list-length, list-entry}
-use Rattle.greatest.specs.Rounds.{same-eq, same-refl}
+use Rattle.laws.specs.Values.{list-length, list-entry}
+use Rattle.laws.specs.Rounds.{same-eq, same-refl}
 use Rattle.tables.specs.Tables.{Tables}
 use Rattle.tables.specs.Sums.{tableValue}
 use Rattle.tables.proofs.Carry.{value-carried}

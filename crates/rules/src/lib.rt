@@ -1,13 +1,107 @@
+// Rules 2 to 9 of document 01, in their order, of the numbers that a line holds: each function has two tests or so and hands the rest on,
+// so that each is proved by a short chain of tests.
 // The record check: document 01's rules 2 to 9 of a set that is handed over as a record, line by line as its text would be judged.
 ghost use mathlib.Core.Path.{_≡_};
-ghost use Rattle.document.specs.Reader.{flowsFault, recordFlowFault, recordFault};
+ghost use lib.ListN.{take};
+ghost use Prim.Native.Nat.{_≤_, _<_};
+ghost use Rattle.rules.specs.Parts.{deadlineFault, triesFault, routeFault, workFault};
+ghost use Rattle.document.specs.Reader.{mapFault, flowFault, flowsFault, recordFlowFault, recordFault};
 ghost use Rattle.model.specs.Sets.{exact, used};
-use flow_rules::flow_fault;
-use flow_rules::map_fault;
+use marks::repeats;
 use model::Fault;
 use model::Flow;
 use model::FlowSet;
 use model::Refusal;
+
+// Rule 9.
+fn work_fault(deadline: u16, tries: u16, nodes: usize) -> Refusal
+    requires { ⌜ (0 < nodes) × (nodes ≤ 17) ⌝ }
+    ensures { λ r. ⌜ r ≡ workFault deadline tries nodes ⌝ }
+{
+    let work = (nodes - 1) * (tries as usize);
+    if (deadline as usize) < work {
+        return Refusal::TooMuchWork;
+    }
+    Refusal::Nothing
+}
+
+// Rules 7 to 9.
+fn route_fault(deadline: u16, tries: u16, nodes: usize, route: [u16; Flow::MOST_NODES]) -> Refusal
+    ensures { λ r. ⌜ r ≡ routeFault deadline tries nodes (take nodes route) ⌝ }
+{
+    if nodes < 2 {
+        return Refusal::BadRoute;
+    }
+    if Flow::MOST_NODES < nodes {
+        return Refusal::BadRoute;
+    }
+    if repeats(route, nodes) {
+        return Refusal::NodeTwice;
+    }
+    work_fault(deadline, tries, nodes)
+}
+
+// Rules 6 to 9.
+fn tries_fault(deadline: u16, tries: u16, nodes: usize, route: [u16; Flow::MOST_NODES]) -> Refusal
+    ensures { λ r. ⌜ r ≡ triesFault deadline tries nodes (take nodes route) ⌝ }
+{
+    if tries == 0 {
+        return Refusal::BadTries;
+    }
+    if 4 < tries {
+        return Refusal::BadTries;
+    }
+    route_fault(deadline, tries, nodes, route)
+}
+
+// Rules 5 to 9.
+fn deadline_fault(
+    period: u16,
+    deadline: u16,
+    tries: u16,
+    nodes: usize,
+    route: [u16; Flow::MOST_NODES],
+) -> Refusal
+    ensures { λ r. ⌜ r ≡ deadlineFault period deadline tries nodes (take nodes route) ⌝ }
+{
+    if deadline == 0 {
+        return Refusal::BadDeadline;
+    }
+    if period < deadline {
+        return Refusal::BadDeadline;
+    }
+    tries_fault(deadline, tries, nodes, route)
+}
+
+// Rule 2.
+pub fn map_fault(bits: u16) -> Refusal
+    ensures { λ r. ⌜ r ≡ mapFault bits ⌝ }
+{
+    if bits == 0 {
+        return Refusal::NoChannel;
+    }
+    Refusal::Nothing
+}
+
+// Rules 3 to 9 of the flow that is number k, whose route has so many nodes: those beyond the array are never looked at.
+pub fn flow_fault(
+    k: usize,
+    period: u16,
+    deadline: u16,
+    tries: u16,
+    nodes: usize,
+    route: [u16; Flow::MOST_NODES],
+) -> Refusal
+    ensures { λ r. ⌜ r ≡ flowFault k period deadline tries nodes (take nodes route) ⌝ }
+{
+    if Flow::MOST <= k {
+        return Refusal::TooManyFlows;
+    }
+    if period == 0 {
+        return Refusal::BadPeriod;
+    }
+    deadline_fault(period, deadline, tries, nodes, route)
+}
 
 // Rules 3 to 9 of a flow of a record.
 fn record_flow_fault(k: usize, f: Flow) -> Refusal

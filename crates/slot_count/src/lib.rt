@@ -7,11 +7,9 @@ ghost use Rattle.model.specs.declared.kinds.FlowSet.{FlowSet};
 ghost use Rattle.model.specs.declared.answers.Fault.{Fault};
 ghost use Rattle.machinery.specs.Runs.{Counted};
 ghost use Rattle.slot_count.specs.Underway.{Underway, SomeRun};
-use choice::choose;
 use model::ChannelMap;
 use model::Flow;
-use turn::Awaited;
-use turn::Totals;
+use step_parts::choose;
 use turn::tally;
 use turn::turn;
 

@@ -15,7 +15,7 @@ use Rattle.model.specs.Sums.{sumTo}
 use Rattle.model.specs.Sets.{flowAt}
 use Rattle.document.specs.Delay.{ways, deadline, workAt, conflictWork, wholePackets, remainder, share, wholeShare, conflictShare, overOthers, joined, boundWith, tightened, valueAt}
 use Rattle.laws.specs.Sums.{sum-ext, sum-add, sum-cut}
-use Rattle.greatest.specs.Values.{sums-le, others-le, bound-ext, conflict-le-work}
+use Rattle.laws.specs.Values.{sums-le, others-le, bound-ext, conflict-le-work}
 use Rattle.tables.specs.Grid.{pairAt, ofOther, conflictOf}
 use Rattle.tables.specs.Tables.{Tables, remainderOf, wholeConflict, wholeWork, Tabled}
 use Rattle.tables.specs.Rows.{SmallRow}

@@ -9,7 +9,7 @@ use Rattle.model.specs.Sets.{listTo}
 use Rattle.document.specs.Text.{same}
 use Rattle.document.specs.Delay.{ways, basicBound, roundOf, roundsIn, mostRounds, reached, tightBound}
 use Rattle.tables.specs.Grid.{FilledTo}
-use Rattle.greatest.specs.Rounds.{Between, room}
+use Rattle.laws.specs.Rounds.{Between, room}
 use Rattle.tables.specs.Tables.{Tables, Tabled}
 
 -- the list whose entries are so far below D

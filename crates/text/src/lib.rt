@@ -1,7 +1,7 @@
 // The reader and the writer of flow sets, document 01's text, and that every record which code can hold has the round trip.
 ghost use mathlib.Core.Path.{_≡_};
 ghost use mathlib.Core.Bool.{true};
-ghost use Rattle.round_trip.specs.Written.{Stored, StoredFlow};
+ghost use Rattle.writer.specs.Written.{Stored, StoredFlow};
 use model::Flow;
 use model::FlowSet;
 pub use reader::read;

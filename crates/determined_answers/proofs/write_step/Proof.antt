@@ -2,7 +2,7 @@ use mathlib.Core.Path.{_∙_, ap, ap₂, sym}
 use mathlib.Core.List.{List}
 use Prim.Native.Nat.{ℕ}
 use lib.ListN.{length}
-use Rattle.written_step.specs.Steps.{stepAnswer, stepState, stepBuffer}
+use Rattle.answer_lines.specs.Steps.{stepAnswer, stepState, stepBuffer}
 use Prim.{tt}
 use Rattle.determined_answers.proofs.write_step.Statement.{statement}
 use Rattle.determined_answers.proofs.write_step.Tie as tie

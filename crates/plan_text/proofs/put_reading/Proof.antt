@@ -2,7 +2,7 @@
 use Prim.{tt}
 use mathlib.Core.Path.{sym}
 use Rattle.puts.specs.Stores.{put-same}
-use Rattle.written_step.specs.Codes.{is-good, not-good}
+use Rattle.answer_lines.specs.Codes.{is-good, not-good}
 use Rattle.plan_text.proofs.Planning.{read-good, read-refused, refused-le}
 use Rattle.plan_text.proofs.put_reading.Statement.{statement}
 use Rattle.plan_text.proofs.put_reading.Tie as tie

@@ -6,7 +6,7 @@ use Prim.Native.Nat.{ℕ, _+_, _-_, _≤_, _<_}
 use native.Mathlib.Omega.{arith}
 use Rattle.model.specs.Sets.{used}
 use Rattle.document.specs.Delay.{mostRounds}
-use Rattle.greatest.specs.Rounds.{accepted-fits}
+use Rattle.laws.specs.Rounds.{accepted-fits}
 use Rattle.tables.proofs.Carry.{fits-carried}
 use Rattle.tables.specs.Steps.{leftOf, Below, Judges, Going}
 use Rattle.rounds.proofs.Going.{going-start, going-next, most-small, deadlines-carried, none-gone}

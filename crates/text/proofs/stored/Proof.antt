@@ -6,7 +6,7 @@ use native.Mathlib.Omega.{arith}
 use borrow.Author.Count.{below-more}
 use lib.ListN.{length, length-map}
 use Rattle.model.specs.Sets.{flowAt}
-use Rattle.round_trip.specs.Written.{Stored, StoredFlow}
+use Rattle.writer.specs.Written.{Stored, StoredFlow}
 use borrow.Author.Needs.{needs}
 use Rattle.text.proofs.stored.Statement.{statement}
 use Rattle.text.proofs.stored.Tie as tie

@@ -2,7 +2,7 @@ use mathlib.Core.Path.{sym, ap, _∙_}
 use Rattle.document.specs.Delay.{boundsOf}
 use Rattle.model.specs.Sets.{used}
 use Rattle.planner.specs.ForC.{boundsOfReading}
-use Rattle.written_step.specs.Codes.{pick-good, pick-refused}
+use Rattle.answer_lines.specs.Codes.{pick-good, pick-refused}
 use Rattle.planner.proofs.Cut.{bounds-cut}
 use borrow.Author.Needs.{needs}
 use Rattle.planner.proofs.reading.bounds.Statement.{statement}

@@ -1,6 +1,6 @@
 use mathlib.Core.Path.{sym, _∙_}
 use Rattle.planner.specs.ForC.{verdictOfReading}
-use Rattle.written_step.specs.Codes.{pick-good, pick-refused}
+use Rattle.answer_lines.specs.Codes.{pick-good, pick-refused}
 use borrow.Author.Needs.{needs}
 use Rattle.planner.proofs.reading.verdict.Statement.{statement}
 use Rattle.planner.proofs.reading.verdict.Tie as tie

@@ -1,1 +1,0 @@
-// The argument that a packet is done in time. It is mathematics alone: the theorems stand in specs/.

@@ -1,4 +1,0 @@
-pub mod Values
-pub mod Rounds
-pub mod Largest
-pub mod Promises

@@ -1,6 +1,0 @@
-pub mod Numerals
-pub mod Lines
-pub mod Again
-pub mod Written
-pub mod Zeros
-pub mod RoundTrip

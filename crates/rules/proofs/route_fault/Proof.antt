@@ -1,0 +1,44 @@
+-- `route_fault` is rules 7 to 9 in their order: each return is the first test of the chain that passes, the last rule 9. Assumes nothing.
+use Prim.Native.Nat.{_<_}
+use mathlib.Core.Path.{sym, _∙_}
+use borrow.Author.Needs.{needs}
+use borrow.Author.Tests.{lt-ltb, le-ltb}
+use Rattle.rules.specs.Parts.{routeFault}
+use Rattle.rules.proofs.route_fault.Statement.{statement}
+use Rattle.rules.proofs.route_fault.Tie as tie
+use Rattle.rules.proofs.route_fault.Reads as reads
+use Rattle.rules.proofs.route_fault.Lts as lts
+use Rattle.marks.proofs.repeats.Reads as repeats-reads
+
+returns : tie.Need-returns
+unfolding routeFault
+returns c = simp (lt-ltb _ _ (c .if1 .taken))
+
+-- more nodes than 17
+above : (c : tie.Then2) → 17 < c .before .before .args .nodes
+above c = c .if2 .taken
+
+returns-2 : tie.Need-returns-2
+unfolding routeFault
+returns-2 c = simp (le-ltb _ _ (c .before .if1 .left), lt-ltb _ _ (above c))
+
+repeats-requires : tie.Need-repeats-requires
+repeats-requires c κs = search needs
+
+returns-3 : tie.Need-returns-3
+unfolding routeFault
+returns-3 c =
+    simp (le-ltb _ _ (c .before .before .before .if1 .left), le-ltb _ _ (c .before .before .if2 .left), sym (c .before .repeats .ensures) ∙ c .if3 .taken)
+
+work-fault-requires : tie.Need-work-fault-requires
+work-fault-requires c κs = search needs
+
+returns-4 : tie.Need-returns-4
+unfolding routeFault
+returns-4 c =
+    simp (le-ltb _ _ (c .before .before .before .before .if1 .left), le-ltb _ _ (c .before .before .before .if2 .left), sym (c .before .before .repeats .ensures) ∙ c .before .if3 .left) (c .work-fault .ensures)
+
+pub route-fault-spec : {M : Type 1} → statement M
+route-fault-spec =
+    tie.close
+    (tie.spec returns returns-2 repeats-requires returns-3 work-fault-requires returns-4)
