@@ -1,8 +1,6 @@
-// Answers as they are told: C's numbers, and the lines of the plan. The margin and the `bound` line of a flow, the `verdict` line, and
-// input that is longer than any set's text: the program refuses it unread.
-// What is refused before a slot is made, in its order, and the answer that carries a refusal.
-// How long the lines of a slot's sends are.
-// A step's answer written into what C has lent: the next state and the slot's lines.
+// Answers as they are told. To C: a verdict's, a flow's bounds' and a slot's numbers, what is refused before a slot is made, and a step's
+// answer written into what was lent, the next state and the slot's lines. By the program: the `verdict` and `bound` lines, and the refusal of
+// input that is longer than any set's text, which is not read.
 ghost use mathlib.Core.List.{_∷_};
 ghost use Rattle.puts.specs.Stores.{Put};
 ghost use Rattle.answer_lines.specs.Margins.{marginText};

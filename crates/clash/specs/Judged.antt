@@ -1,12 +1,13 @@
 -- A flow judged for its slot: it is placed if its packet is ready and its link shares no node with a placed one.
 use mathlib.Core.Path.{_≡_, refl}
 use mathlib.Core.Bool.{Bool, true, false, not, _&&_}
-use mathlib.Core.List.{List, [], _∷_}
+use mathlib.Core.List.{List, []}
 use Prim.Native.Nat.{ℕ, _+_, _/_, _≤_, _<_}
 use native.Mathlib.Nat.{add-zero}
 use lib.ListN.{getD, length}
 use Rattle.machinery.specs.Choice.{clashEnds, OneMore, one-none, Chosen, chosen-more, chosen-skip}
 use Rattle.machinery.specs.Links.{endIn, linkIn}
+use Rattle.model.specs.Limits.{mostChannels, mostFlows}
 
 -- the first end of a flow's next link
 abbrev pub fromIn : List ℕ → List ℕ → List (List ℕ) → ℕ → ℕ
@@ -28,7 +29,7 @@ module _ (sent tries : List ℕ) (routes : List (List ℕ)) (ready : Bool) (k p 
 -- what is placed so far stays together with what is still to be judged the same choice
 pub chosen-judged : (m : ℕ) (sent tries : List ℕ) (routes : List (List ℕ)) (r : ℕ → Bool) (ord : List ℕ) (i p : ℕ) (chosen from to marked : List ℕ)
     → Chosen m (linkIn sent tries routes) r ord i p chosen from to marked
-    → (k : ℕ) → m ≤ 16 → p < m → i < length ord → getD ord i 0 ≡ k → k < 64
+    → (k : ℕ) → m ≤ mostChannels → p < m → i < length ord → getD ord i 0 ≡ k → k < mostFlows
     → (from′ to′ chosen′ marked′ : List ℕ) (n : ℕ) → Judged sent tries routes (r k) k p from to chosen marked from′ to′ chosen′ marked′ n
     → Chosen m (linkIn sent tries routes) r ord (i + 1) n chosen′ from′ to′ marked′
 chosen-judged m sent tries routes r ord i p chosen from to marked c k l f h o b from′ to′ chosen′ marked′ n w = go (r k) refl w

@@ -8,6 +8,7 @@ ghost use Rattle.machinery.specs.Choice.{clashEnds, OneMore};
 ghost use Rattle.machinery.specs.Dues.{readyBy};
 ghost use Rattle.machinery.specs.Links.{Busy};
 ghost use Rattle.clash.specs.Judged.{Judged};
+ghost use Rattle.model.specs.Limits.{mostChannels, mostFlows, mostLinks};
 use model::ChannelMap;
 use model::Flow;
 use packets::Ends;
@@ -22,7 +23,7 @@ pub fn ends_of(
     tries: &[u16; Flow::MOST],
     routes: &[[u16; Flow::MOST_NODES]; Flow::MOST],
 ) -> Ends
-    requires { ⌜ (k < 64) × (0 < getD (now tries) k 0) × (n / getD (now tries) k 0 < 16) ⌝ }
+    requires { ⌜ (k < mostFlows) × (0 < getD (now tries) k 0) × (n / getD (now tries) k 0 < mostLinks) ⌝ }
     ensures { λ r. ⌜ (r .from ≡ getD (getD (now (routes .entry)) k []) (n / getD (now (tries .entry)) k 0) 0) × (r .to ≡ getD (getD (now (routes .entry)) k []) (n / getD (now (tries .entry)) k 0 + 1) 0) ⌝ }
 {
     let i = ((n as u16) / tries[k]) as usize;
@@ -39,7 +40,7 @@ fn clashes(
     to: &[u16; ChannelMap::MOST],
     placed: usize,
 ) -> bool
-    requires { ⌜ placed ≤ 16 ⌝ }
+    requires { ⌜ placed ≤ mostChannels ⌝ }
     ensures { λ r. ⌜ r ≡ clashEnds (a .from) (a .to) (now (from .entry)) (now (to .entry)) placed ⌝ }
 {
     let mut j = 0;
@@ -64,7 +65,7 @@ fn is_taken(
     busy: &[u8; 256],
     placed: usize,
 ) -> bool
-    requires { ⌜ (placed ≤ 16) × Busy (now busy) (now from) (now to) placed ⌝ }
+    requires { ⌜ (placed ≤ mostChannels) × Busy (now busy) (now from) (now to) placed ⌝ }
     ensures { λ r. ⌜ r ≡ clashEnds (a .from) (a .to) (now (from .entry)) (now (to .entry)) placed ⌝ }
 {
     let f = (a.from % 256) as usize;
@@ -89,7 +90,7 @@ fn place_one(
     chosen: &mut [usize; ChannelMap::MOST],
     marked: &mut [u8; Flow::MOST],
 ) -> usize
-    requires { ⌜ (k < 64) × (placed < 16) × Busy (now busy) (now from) (now to) placed × (length (now from) ≡ 16) × (length (now to) ≡ 16) ⌝ }
+    requires { ⌜ (k < mostFlows) × (placed < mostChannels) × Busy (now busy) (now from) (now to) placed × (length (now from) ≡ mostChannels) × (length (now to) ≡ mostChannels) ⌝ }
     ensures one { λ r. ⌜ OneMore (not (clashEnds (a .from) (a .to) (now (from .entry)) (now (to .entry)) placed)) k (a .from) (a .to) placed (now (from .entry)) (now (to .entry)) (now (chosen .entry)) (now (marked .entry)) (now (from .exit)) (now (to .exit)) (now (chosen .exit)) (now (marked .exit)) r ⌝ }
     ensures busy { λ r. ⌜ Busy (now (busy .exit)) (now (from .exit)) (now (to .exit)) r ⌝ }
 {
@@ -121,8 +122,8 @@ pub fn judge_flow(
     chosen: &mut [usize; ChannelMap::MOST],
     marked: &mut [u8; Flow::MOST],
 ) -> usize
-    requires { ⌜ (k < 64) × (placed < 16) × Busy (now busy) (now from) (now to) placed × (length (now from) ≡ 16) × (length (now to) ≡ 16) ⌝ }
-    requires { ⌜ (getD (now sent) k 0 < getD (now work) k 0 → (0 < getD (now tries) k 0) × (getD (now sent) k 0 / getD (now tries) k 0 < 16)) ⌝ }
+    requires { ⌜ (k < mostFlows) × (placed < mostChannels) × Busy (now busy) (now from) (now to) placed × (length (now from) ≡ mostChannels) × (length (now to) ≡ mostChannels) ⌝ }
+    requires { ⌜ (getD (now sent) k 0 < getD (now work) k 0 → (0 < getD (now tries) k 0) × (getD (now sent) k 0 / getD (now tries) k 0 < mostLinks)) ⌝ }
     ensures one { λ r. ⌜ Judged (now (sent .entry)) (now (tries .entry)) (now (routes .entry)) (readyBy (now (start .entry)) (now (due .entry)) (now (sent .entry)) (now (work .entry)) t k) k placed (now (from .entry)) (now (to .entry)) (now (chosen .entry)) (now (marked .entry)) (now (from .exit)) (now (to .exit)) (now (chosen .exit)) (now (marked .exit)) r ⌝ }
     ensures busy { λ r. ⌜ Busy (now (busy .exit)) (now (from .exit)) (now (to .exit)) r ⌝ }
 {

@@ -1,5 +1,5 @@
-// The shares of each pair of flows in the two delay tests, as far as no round changes them: tables that are made once.
-// The two delay tests of document 01: both bounds of every flow, the verdicts of a set, and one flow's bounds.
+// The two delay tests of document 01: both bounds of every flow, the verdicts of a set, and one flow's bounds. The shares of each pair of
+// flows, as far as no round changes them, are tables that are made once.
 ghost use mathlib.Core.Path.{_≡_};
 ghost use Prim.Native.Nat.{ℕ, _≤_, _<_};
 ghost use lib.ListN.{getD};
@@ -13,6 +13,7 @@ ghost use Rattle.document.specs.Reader.{recordFault};
 ghost use Rattle.tables.specs.Answers.{AllBoundsOf};
 ghost use Rattle.tables.specs.Steps.{JudgedAs};
 ghost use Rattle.document.specs.Delay.{verdictOf, boundsOf};
+ghost use Rattle.model.specs.Limits.{mostFlows};
 use model::Bounds;
 use model::Fault;
 use model::Flow;
@@ -32,7 +33,7 @@ fn rows<'a>(
     whole_conflict: &mut [u32; Flow::MOST],
     whole_work: &mut [u32; Flow::MOST],
 )
-    requires { ⌜ (n ≤ 64) × ((l : ℕ) → l < n → (0 < getD (now period) l 0) × (0 < getD (now deadline) l 0)) × ((k : ℕ) → SmallRow (now conflict) (now work) k) ⌝ }
+    requires { ⌜ (n ≤ mostFlows) × ((l : ℕ) → l < n → (0 < getD (now period) l 0) × (0 < getD (now deadline) l 0)) × ((k : ℕ) → SmallRow (now conflict) (now work) k) ⌝ }
     requires { ⌜ RowsDone n 0 (now period) (now deadline) (now conflict) (now work) (now remainder) (now «whole_conflict») (now «whole_work») ⌝ }
     ensures { λ r. ⌜ RowsDone n n (now (period .entry)) (now (deadline .entry)) (now (conflict .entry)) (now (work .entry)) (now (remainder .exit)) (now («whole_conflict» .exit)) (now («whole_work» .exit)) ⌝ }
 {
@@ -117,7 +118,6 @@ fn judge_by<'a>(
         whole_conflict,
         whole_work,
     );
-    let gone = end.gone;
     let tightened = equation::values(
         s.count as usize,
         m,
@@ -127,7 +127,7 @@ fn judge_by<'a>(
         deadline,
         whole_conflict,
         whole_work,
-        &gone,
+        &end.gone,
     );
     Judged {
         basic,

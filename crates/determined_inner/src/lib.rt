@@ -2,15 +2,16 @@
 // from the contracts alone, since nothing else is seen from here. Here: functions that only crates of the planner call, with what they ask.
 ghost use mathlib.Core.Path.{_≡_};
 ghost use mathlib.Core.Bool.{true};
-ghost use Prim.Native.Nat.{_/_, _≤_, _<_};
+ghost use Prim.Native.Nat.{_/_, _<_};
 ghost use lib.ListN.{getD};
 ghost use Rattle.model.specs.Refusals.{good};
 ghost use Rattle.document.specs.Reader.{recordFault};
 ghost use Rattle.model.specs.Sets.{used};
-ghost use Rattle.machinery.specs.Answers.{Delayed};
+ghost use Rattle.model.specs.Limits.{mostFlows, mostLinks};
 use model::Fault;
 use model::Flow;
 use model::FlowSet;
+use model::Slot;
 use model::Span;
 use model::State;
 use model::Stepped;
@@ -20,7 +21,7 @@ pub struct TwoU8(pub u8, pub u8);
 
 pub struct TwoU16(pub u16, pub u16);
 
-pub struct TwoU32(pub u32, pub u32);
+pub struct TwoSlot(pub Slot, pub Slot);
 
 pub struct TwoPlaces(pub usize, pub usize);
 
@@ -90,17 +91,15 @@ pub fn row_of(rows: &[u16; node_rows::NODES], node: u16) -> TwoPlaces
     TwoPlaces(a, b)
 }
 
-pub fn due_of(first: u32, period: u32, deadline: u32, t: u32) -> TwoU32
-    requires { ⌜ (0 < period) × (first ≤ 65535) × (deadline ≤ 65535) × (t ≤ 4000000000) ⌝ }
+pub fn due_of(first: Slot, period: Span, deadline: Span, t: Slot) -> TwoSlot
     ensures { λ r. ⌜ r .0 ≡ r .1 ⌝ }
 {
     let a = packets::due_of(first, period, deadline, t);
     let b = packets::due_of(first, period, deadline, t);
-    TwoU32(a, b)
+    TwoSlot(a, b)
 }
 
-pub fn had_of(due: u32, deadline: u32, t: u32, n: u8) -> TwoU8
-    requires { ⌜ (deadline ≤ 65535) × (t ≤ 4000000000) ⌝ }
+pub fn had_of(due: Slot, deadline: Span, t: Slot, n: u8) -> TwoU8
     ensures { λ r. ⌜ r .0 ≡ r .1 ⌝ }
 {
     let a = packets::had_of(due, deadline, t, n);
@@ -117,7 +116,6 @@ pub fn is_ready(start: u32, due: u32, sent: u8, work: u8, t: u32) -> TwoBool
 }
 
 pub fn is_delivered(marked: u8, sent: u8, work: u8) -> TwoBool
-    requires { ⌜ sent ≤ 64 ⌝ }
     ensures { λ r. ⌜ r .0 ≡ r .1 ⌝ }
 {
     let a = packets::is_delivered(marked, sent, work);
@@ -125,8 +123,7 @@ pub fn is_delivered(marked: u8, sent: u8, work: u8) -> TwoBool
     TwoBool(a, b)
 }
 
-pub fn is_dropped(t: u32, start: u32, due: u32, after: u8, work: u8) -> TwoBool
-    requires { ⌜ t ≤ 4000000000 ⌝ }
+pub fn is_dropped(t: Slot, start: Slot, due: Slot, after: u8, work: u8) -> TwoBool
     ensures { λ r. ⌜ r .0 ≡ r .1 ⌝ }
 {
     let a = packets::is_dropped(t, start, due, after, work);
@@ -134,8 +131,7 @@ pub fn is_dropped(t: u32, start: u32, due: u32, after: u8, work: u8) -> TwoBool
     TwoBool(a, b)
 }
 
-pub fn delay_of(t: u32, due: u32, deadline: u32) -> TwoSpan
-    requires { ⌜ Delayed t due deadline ⌝ }
+pub fn delay_of(t: Slot, due: Slot, deadline: Span) -> TwoSpan
     ensures { λ r. ⌜ r .0 ≡ r .1 ⌝ }
 {
     let a = packets::delay_of(t, due, deadline);
@@ -164,7 +160,7 @@ pub fn ends_of(
     tries: &[u16; Flow::MOST],
     routes: &[[u16; Flow::MOST_NODES]; Flow::MOST],
 ) -> TwoEnds
-    requires { ⌜ (k < 64) × (0 < getD (now tries) k 0) × (n / getD (now tries) k 0 < 16) ⌝ }
+    requires { ⌜ (k < mostFlows) × (0 < getD (now tries) k 0) × (n / getD (now tries) k 0 < mostLinks) ⌝ }
     ensures { λ r. ⌜ r .0 ≡ r .1 ⌝ }
 {
     let a = clash::ends_of(k, n, tries, routes);

@@ -44,6 +44,22 @@ pub fn slot_after(t: Slot, n: Span) -> TwoSlot
     TwoSlot(a, b)
 }
 
+pub fn slot_back(t: Slot, n: Span) -> TwoSlot
+    ensures { λ r. ⌜ r .0 ≡ r .1 ⌝ }
+{
+    let a = t.back(n);
+    let b = t.back(n);
+    TwoSlot(a, b)
+}
+
+pub fn slot_release(t: Slot, first: Slot, period: Span) -> TwoSlot
+    ensures { λ r. ⌜ r .0 ≡ r .1 ⌝ }
+{
+    let a = t.release(first, period);
+    let b = t.release(first, period);
+    TwoSlot(a, b)
+}
+
 pub fn slot_since(t: Slot, earlier: Slot) -> TwoSpan
     ensures { λ r. ⌜ r .0 ≡ r .1 ⌝ }
 {

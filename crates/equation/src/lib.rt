@@ -10,6 +10,7 @@ ghost use Rattle.tables.specs.Steps.{ValuesTo};
 ghost use lib.ListN.{getD, length};
 ghost use Rattle.model.specs.Sums.{sumTo};
 ghost use Rattle.tables.specs.Grid.{pairAt, ofOther, RowDone};
+ghost use Rattle.model.specs.Limits.{mostFlows};
 use model::Flow;
 
 // C + ΣX + (ΣW − ΣX) / m: the one division, after both sums.
@@ -35,7 +36,7 @@ fn add_up(
     work: &[u16; Flow::MOST],
     gone: &[u16; Flow::MOST],
 ) -> Added
-    requires { ⌜ (k < 64) × SmallRow (now conflict) (now work) k ⌝ }
+    requires { ⌜ (k < mostFlows) × SmallRow (now conflict) (now work) k ⌝ }
     ensures { λ r. ⌜ (r .conflict ≡ conflictRow (now (conflict .entry)) (now (remainder .entry)) (now (gone .entry)) k) × (r .conflict ≤ 4096) ⌝ }
     ensures { λ r. ⌜ (r .work ≡ workRow (now (work .entry)) (now (remainder .entry)) (now (gone .entry)) k) × (r .work ≤ 4096) ⌝ }
 {
@@ -67,7 +68,7 @@ pub fn value<'a>(
     whole_work: &'a [u32; Flow::MOST],
     gone: &[u16; Flow::MOST],
 ) -> u32
-    requires { ⌜ (k < 64) × (0 < m) ⌝ }
+    requires { ⌜ (k < mostFlows) × (0 < m) ⌝ }
     requires { ⌜ Ordered (tablesOf (now conflict) (now remainder) (now work) (now deadline) (now «whole_conflict») (now «whole_work»)) (now gone) k ⌝ }
     ensures { λ r. ⌜ (r ≡ tableValue (tablesOf (now (conflict .entry)) (now (remainder .entry)) (now (work .entry)) (now (deadline .entry)) (now («whole_conflict» .entry)) (now («whole_work» .entry))) m (now (gone .entry)) k) × (r ≤ 272691135) ⌝ }
 {
@@ -92,7 +93,7 @@ pub fn values<'a>(
     whole_work: &'a [u32; Flow::MOST],
     gone: &[u16; Flow::MOST],
 ) -> Values
-    requires { ⌜ (n ≤ 64) × (0 < m) ⌝ }
+    requires { ⌜ (n ≤ mostFlows) × (0 < m) ⌝ }
     requires { ⌜ Fits (tablesOf (now conflict) (now remainder) (now work) (now deadline) (now «whole_conflict») (now «whole_work»)) n ⌝ }
     ensures { λ r. ⌜ ValuesTo (tableValue (tablesOf (now (conflict .entry)) (now (remainder .entry)) (now (work .entry)) (now (deadline .entry)) (now («whole_conflict» .entry)) (now («whole_work» .entry))) m (now (gone .entry))) n r ⌝ }
 {
@@ -136,9 +137,9 @@ fn whole_of(
     work: &[u16; Flow::MOST],
     q: &[u16; Flow::MOST],
 ) -> Whole
-    requires { ⌜ (k < 64) × SmallRow (now conflict) (now work) k ⌝ }
-    ensures { λ r. ⌜ r .conflict ≡ sumTo (λ l. getD (now (q .entry)) l 0 * pairAt (now (conflict .entry)) k l) 64 ⌝ }
-    ensures { λ r. ⌜ (r .work ≡ sumTo (λ l. getD (now (q .entry)) l 0 * getD (now (work .entry)) l 0) 64) × (r .work ≤ 268431360) ⌝ }
+    requires { ⌜ (k < mostFlows) × SmallRow (now conflict) (now work) k ⌝ }
+    ensures { λ r. ⌜ r .conflict ≡ sumTo (λ l. getD (now (q .entry)) l 0 * pairAt (now (conflict .entry)) k l) mostFlows ⌝ }
+    ensures { λ r. ⌜ (r .work ≡ sumTo (λ l. getD (now (q .entry)) l 0 * getD (now (work .entry)) l 0) mostFlows) × (r .work ≤ 268431360) ⌝ }
 {
     let mut x: u32 = 0;
     let mut w: u32 = 0;
@@ -166,7 +167,7 @@ pub fn row<'a>(
     q: &mut [u16; Flow::MOST],
     remainder: &mut [u16; tables::PAIRS],
 ) -> Whole
-    requires { ⌜ (k < n) × (n ≤ 64) × (0 < deadline) × ((l : ℕ) → l < n → 0 < getD (now period) l 0) ⌝ }
+    requires { ⌜ (k < n) × (n ≤ mostFlows) × (0 < deadline) × ((l : ℕ) → l < n → 0 < getD (now period) l 0) ⌝ }
     requires { ⌜ SmallRow (now conflict) (now work) k × Short n (now q) × (length (now remainder) ≡ 4096) ⌝ }
     ensures { λ r. ⌜ Short n (now (q .exit)) × RowDone (λ l. ofOther k l (deadline % getD (now (period .entry)) l 0)) n k (now (remainder .entry)) (now (remainder .exit)) ⌝ }
     ensures { λ r. ⌜ r .conflict ≡ wholeRow deadline (now (period .entry)) n k (λ l. pairAt (now (conflict .entry)) k l) ⌝ }

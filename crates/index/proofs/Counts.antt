@@ -11,7 +11,7 @@ use Rattle.model.specs.Limits.{mostFlows}
 use Rattle.model.specs.Sums.{sumTo}
 use Rattle.laws.specs.Sums.{sum-next}
 use Rattle.tables.proofs.Fill.{zeros}
-use Rattle.index.specs.Met.{either, Added, metTo, Met}
+use Rattle.index.specs.Met.{either, Added, Met}
 
 -- one flow more has its number raised
 pub added-start : (users : List ℕ) (a b : ℕ) (t : List ℕ) → length t ≡ mostFlows → Added users a b 0 t t

@@ -6,6 +6,7 @@ ghost use Rattle.model.specs.Sets.{used};
 ghost use Rattle.laws.specs.Accepted.{Accepted};
 ghost use Rattle.node_rows.specs.Index.{Placed, Rowed, PlacedTo, Column, OtherColumns, UsersTo};
 ghost use Rattle.index.specs.Met.{Added};
+ghost use Rattle.model.specs.Limits.{mostFlows, mostLinks, mostNodes};
 use model::Flow;
 use model::FlowSet;
 
@@ -33,7 +34,7 @@ pub fn row_of(rows: &[u16; node_rows::NODES], node: u16) -> usize
 
 // Flow k is one of those whose route its nodes are on.
 fn mark_route(f: Flow, k: usize, rows: &[u16; node_rows::NODES], users: &mut [u8; node_rows::USERS])
-    requires { ⌜ (f .nodes ≤ 17) × (k < 64) × Placed (now rows) 1088 × Rowed (now rows) (f .route) (f .nodes) ⌝ }
+    requires { ⌜ (f .nodes ≤ mostNodes) × (k < mostFlows) × Placed (now rows) 1088 × Rowed (now rows) (f .route) (f .nodes) ⌝ }
     requires { ⌜ OtherColumns k (now users) (now users) × Column (now rows) (now users) k (f .route) 0 ⌝ }
     ensures { λ r. ⌜ OtherColumns k (now (users .entry)) (now (users .exit)) × Column (now (rows .entry)) (now (users .exit)) k (f .route) (f .nodes) ⌝ }
 {
@@ -62,9 +63,9 @@ pub fn mark(s: FlowSet, rows: &[u16; node_rows::NODES], users: &mut [u8; node_ro
 
 // One more for each flow whose route has an end of a link, the ends' rows being a and b.
 pub fn add_link(a: usize, b: usize, users: &[u8; node_rows::USERS], touched: &mut [u8; Flow::MOST])
-    requires { ⌜ (a ≤ 1088) × (b ≤ 1088) × (length (now touched) ≡ 64) ⌝ }
-    requires { ⌜ ((i : ℕ) → getD (now users) i 0 ≤ 1) × ((k : ℕ) → getD (now touched) k 0 ≤ 16) ⌝ }
-    ensures { λ r. ⌜ Added (now (users .entry)) a b 64 (now (touched .entry)) (now (touched .exit)) ⌝ }
+    requires { ⌜ (a ≤ 1088) × (b ≤ 1088) × (length (now touched) ≡ mostFlows) ⌝ }
+    requires { ⌜ ((i : ℕ) → getD (now users) i 0 ≤ 1) × ((k : ℕ) → getD (now touched) k 0 ≤ mostLinks) ⌝ }
+    ensures { λ r. ⌜ Added (now (users .entry)) a b mostFlows (now (touched .entry)) (now (touched .exit)) ⌝ }
 {
     let first = a * Flow::MOST;
     let second = b * Flow::MOST;

@@ -4,20 +4,19 @@
 use mathlib.Core.Path.{_≡_, refl, sym, ap, _∙_}
 use mathlib.Core.Bool.{Bool, true, false, cond}
 use mathlib.Core.List.{List, [], _∷_}
-use Prim.Native.Nat.{ℕ, zero, suc, _+_, _-_, _≤_, _<_, zero-le, min}
-use native.Mathlib.Nat.{le-refl, le-trans, le-of-eq, le-antisymm}
+use Prim.Native.Nat.{ℕ, zero, suc, _-_, _≤_, _<_, zero-le, min}
+use native.Mathlib.Nat.{le-antisymm}
 use native.Mathlib.Decide.{decLe, ℕ-discrete}
 use native.Mathlib.Omega.{arith}
-use borrow.Author.Tests.{lt-ltb, le-ltb}
-use lib.Dec.{leb, ltb}
+use borrow.Author.Tests.{le-ltb}
+use lib.Dec.{ltb}
 use lib.IntN.{ℤ, pos, negsuc, _-ℤ_}
 use lib.ListN.{length, getD, List·getD-eq-default}
 use lib.Seq.{ext-getD}
 use Rattle.model.specs.declared.kinds.FlowSet.{FlowSet}
-use Rattle.document.specs.Delay.{deadline, workAt, basicBound, valueAt, Settled, Greatest, deadlines, lowered, roundTo, roundOf, reached, tightBound}
-use Rattle.laws.specs.Accepted.{Accepted}
+use Rattle.document.specs.Delay.{deadline, basicBound, valueAt, Settled, Greatest, deadlines, lowered, roundTo, reached, tightBound}
 use Rattle.laws.specs.Values.{value-le-basic, deadlines-entry}
-use Rattle.laws.specs.Rounds.{Le, value-mono, lowered-entry, lowered-other, round-le-value, Between, between-deadlines, between-lowered, WorkFits, accepted-fits, reached-between, reached-idle, Ends, idle, more, reached-ends}
+use Rattle.laws.specs.Rounds.{Le, value-mono, lowered-entry, lowered-other, round-le-value, Between, between-deadlines, between-lowered, WorkFits, reached-between, reached-idle, Ends, idle, more, reached-ends}
 
 -- a settled list has no entry beyond the flows
 settled-none : (s : FlowSet) (g : List ℕ) → Settled s g → (i : ℕ) → s .count ≤ i → getD g i 0 ≡ 0

@@ -1,26 +1,24 @@
 -- What document 01 says of the two tests, of the answers themselves.
-use mathlib.Core.Path.{_≡_, refl, sym, ap, _∙_}
-use mathlib.Core.Bool.{Bool, true, false, _&&_, cond}
+use mathlib.Core.Path.{_≡_, refl, ap}
+use mathlib.Core.Bool.{Bool, true, false, cond}
 use mathlib.Core.List.{List}
-use Prim.Native.Nat.{ℕ, zero, suc, _+_, _-_, _*_, _/_, _≤_, _<_, zero-le}
-use native.Mathlib.Nat.{le-refl, le-trans, le-of-eq, mul-le-mul, div-le-self}
+use Prim.Native.Nat.{ℕ, zero, suc, _-_, _≤_, _<_, zero-le}
+use native.Mathlib.Nat.{le-trans, mul-le-mul, div-le-self}
 use native.Mathlib.Omega.{arith}
 use borrow.Author.Tests.{leb-true, le-leb}
 use lib.Dec.{leb, ltb, eqb}
-use lib.ListN.{getD}
 use Rattle.model.specs.declared.kinds.FlowSet.{FlowSet}
-use Rattle.model.specs.declared.answers.Bounds.{Bounds}
-use Rattle.model.specs.declared.answers.Verdict.{Verdict}
-use Rattle.model.specs.Sums.{sumTo, allTo}
+use Rattle.model.specs.Sums.{allTo}
 use Rattle.model.specs.Refusals.{good}
 use Rattle.model.specs.Sets.{flowAt}
 use Rattle.document.specs.Reader.{recordFault}
-use Rattle.document.specs.Delay.{ways, period, deadline, workAt, wholePackets, share, wholeShare, conflictShare, overOthers, joined, boundWith, basicBound, valueAt, Greatest, deadlines, mostRounds, reached, tightBound, admits, verdictIf, verdictOf, boundsIf, boundsFault, boundsOf}
+use Rattle.document.specs.Delay.{ways, period, deadline, workAt, wholePackets, share, wholeShare, conflictShare, overOthers, boundWith, basicBound, valueAt, Greatest, deadlines, mostRounds, reached, tightBound, admits, verdictIf, verdictOf, boundsIf, boundsFault, boundsOf}
 use Rattle.laws.specs.Sums.{sum-le, sum-const, and-l, and-r, and-i}
 use Rattle.laws.specs.Accepted.{Accepted, accepted}
-use Rattle.laws.specs.Values.{sums-le, others-le}
+use Rattle.laws.specs.Values.{sums-le}
 use Rattle.laws.specs.Rounds.{accepted-fits, Ends, reached-ends, reached-rounds-le}
 use Rattle.laws.specs.Largest.{reached-greatest, tight-is-value, tight-le-basic, negative, difference-sign}
+use Rattle.model.specs.Limits.{mostLinks}
 
 -- the rounds of a set that is not refused: what they reach is the greatest list, and their number is that of the rounds to there
 pub greatest-reached : (s : FlowSet) → good (recordFault s .refusal) ≡ true → Greatest s (reached s .list)
@@ -89,7 +87,7 @@ pub work-le-most : (s : FlowSet) → Accepted s → (k : ℕ) → k < s .count �
 work-le-most s a k h =
     let g = a .flow k h in
     let n = g .nodes-le in
-    let l : flowAt s k .nodes - 1 ≤ 16 = omega arith in
+    let l : flowAt s k .nodes - 1 ≤ mostLinks = omega arith in
     mul-le-mul l (g .tries-le)
 
 share-le-most : (s : FlowSet) → Accepted s → (k l : ℕ) → l < s .count → deadline s k ≤ 65535 → (y : ℕ → ℕ) → wholeShare s y k l ≤ 4194304

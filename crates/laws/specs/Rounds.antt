@@ -2,21 +2,21 @@
 -- that changes something lowers Σ(v − C) by at least 1, so the rounds end before their fuel does; one that changes nothing has no entry
 -- above the equation's value.
 use mathlib.Core.Path.{_≡_, refl, sym, ap, _∙_}
-use mathlib.Core.Bool.{Bool, true, false, _&&_, cond, false≢true}
+use mathlib.Core.Bool.{Bool, true, false, false≢true}
 use mathlib.Core.List.{List, [], _∷_}
-use Prim.Native.Nat.{ℕ, zero, suc, _+_, _-_, _≤_, _<_, zero-le, min}
+use Prim.Native.Nat.{ℕ, zero, suc, _+_, _-_, _≤_, _<_, min}
 use native.Mathlib.Nat.{le-refl, le-trans, le-of-eq, add-zero, add-suc}
 use native.Mathlib.Decide.{decLe, ℕ-discrete}
 use native.Mathlib.Omega.{arith}
 use borrow.Author.Tests.{eqb-true, eq-eqb}
 use lib.Dec.{eqb}
 use lib.ListN.{length, getD, set, length-set, List·getD-eq-default}
-use lib.Seq.{getD-set-same, getD-set-other, set-out, set-getD, ext-getD}
+use lib.Seq.{getD-set-same, getD-set-other, set-out, ext-getD}
 use Rattle.model.specs.declared.kinds.FlowSet.{FlowSet}
 use Rattle.model.specs.Sums.{sumTo}
 use Rattle.document.specs.Text.{same}
 use Rattle.document.specs.Delay.{deadline, workAt, valueAt, deadlines, lowered, roundTo, roundOf, Reached, roundsIn, mostRounds, reached}
-use Rattle.laws.specs.Sums.{sum-le, sum-ext, sum-lt, and-l, and-r}
+use Rattle.laws.specs.Sums.{sum-le, sum-ext, and-l, and-r}
 use Rattle.laws.specs.Accepted.{Accepted}
 use Rattle.laws.specs.Values.{value-le, value-ge-work, deadlines-length, deadlines-entry}
 

@@ -1,16 +1,14 @@
 -- What `used` keeps: the map, the count, and each flow below the count without the entries beyond its route's end. So two records
 -- that are the same set have the same answers, since every answer is a function of what is kept.
 use mathlib.Core.Path.{_≡_, refl, ap, _∙_}
-use mathlib.Core.List.{List, [], map}
+use mathlib.Core.List.{map}
 use Prim.Native.Nat.{ℕ, _<_}
-use lib.ListN.{getD, take, length, List·getD-map}
-use lib.Seq.{getD-take, take-take}
-use Rattle.model.specs.declared.kinds.ChannelMap.{ChannelMap}
-use Rattle.model.specs.declared.kinds.Flow.{Flow}
+use lib.ListN.{take, List·getD-map}
+use lib.Seq.{getD-take}
 use Rattle.model.specs.declared.kinds.FlowSet.{FlowSet}
 use Rattle.model.specs.declared.kinds.State.{State}
 use Rattle.model.specs.Sets.{noFlow, flowAt, exact, used, SameSet}
-use Rattle.document.specs.Reader.{recordFault, textOf, writeAnswer, writeInto}
+use Rattle.document.specs.Reader.{recordFault, textOf}
 use Rattle.document.specs.Delay.{verdictOf, boundsOf}
 use Rattle.document.specs.Machine.{stepOf, runOf}
 

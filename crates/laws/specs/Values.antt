@@ -1,10 +1,10 @@
 -- The equation's value grows with the list, and at the list of deadlines it is the basic bound. A conflict share is at most the whole
 -- share, and what is left of it grows with r too: so both sums and their difference grow, and the one division keeps that.
-use mathlib.Core.Path.{_≡_, refl, sym, ap, ap₂, _∙_}
+use mathlib.Core.Path.{_≡_, refl, ap, ap₂, _∙_}
 use mathlib.Core.Bool.{Bool, true, false, cond}
-use mathlib.Core.List.{List, [], _∷_, _++_}
-use Prim.Native.Nat.{ℕ, zero, suc, _+_, _-_, _*_, _/_, _%_, _≤_, _<_, zero-le, min}
-use native.Mathlib.Nat.{le-refl, le-trans, mul-le-mul-left, div-mul-le-self, lt-div-mul-add, div-zero, le-div-iff-mul-le, add-zero}
+use mathlib.Core.List.{List, [], _∷_}
+use Prim.Native.Nat.{ℕ, zero, suc, _+_, _-_, _/_, _≤_, _<_, zero-le, min}
+use native.Mathlib.Nat.{le-trans, mul-le-mul-left, div-mul-le-self, div-zero, le-div-iff-mul-le}
 use native.Mathlib.Decide.{decLe}
 use native.Mathlib.Omega.{arith}
 use lib.Dec.{eqb}
@@ -12,7 +12,6 @@ use lib.ListN.{length, getD, length-append, List·getD-append}
 use lib.Seq.{getD-at}
 use Rattle.model.specs.declared.kinds.Flow.{Flow}
 use Rattle.model.specs.declared.kinds.FlowSet.{FlowSet}
-use Rattle.model.specs.Sums.{bit, sumTo}
 use Rattle.model.specs.Sets.{flowAt, listTo, links, work}
 use Rattle.document.specs.Delay.{ways, deadline, workAt, touches, conflictWork, share, wholeShare, conflictShare, overOthers, joined, boundWith, remainder, basicBound, tightened, valueAt, deadlines}
 use Rattle.laws.specs.Sums.{sum-le, sum-ext, sum-add, bits-le}

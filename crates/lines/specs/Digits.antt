@@ -1,18 +1,18 @@
 -- Laws of a number's digits: what the byte at a place says of the field that stands there.
 use mathlib.Core.Path.{_≡_, refl, sym, ap, subst, _∙_}
-use mathlib.Core.Bool.{Bool, true, false, not, _&&_, _||_, cond, and-false}
-use mathlib.Core.List.{List, [], _∷_, _++_}
-use Prim.Native.Nat.{ℕ, zero, suc, _+_, _-_, _*_, _<_, _≤_, zero-le}
+use mathlib.Core.Bool.{Bool, true, false, not, _&&_, cond, and-false}
+use mathlib.Core.List.{List, [], _∷_}
+use Prim.Native.Nat.{ℕ, suc, _+_, _-_, _*_, _<_, _≤_, zero-le}
 use native.Mathlib.Nat.{le-refl, add-zero}
 use native.Mathlib.Decide.{decLe}
 use native.Mathlib.Omega.{arith}
 use lib.Dec.{leb, ltb, eqb}
-use lib.ListN.{length, getD, take, drop, drop-of-length-le}
+use lib.ListN.{length, getD, drop, drop-of-length-le}
 use lib.Seq.{drop-cons, drop-drop, getD-drop}
 use borrow.Author.Tests.{eqb-true, ltb-true, ltb-false, eqb-false, leb-true, leb-false, lt-ltb, le-ltb, le-leb, lt-leb, ne-eqb}
-use Rattle.document.specs.Text.{tab, lf, zeroDigit, fields, isDigit, allDigits, plain, valueFrom, valueOf, isNumber}
+use Rattle.document.specs.Text.{fields, isDigit, allDigits, plain, valueFrom, valueOf, isNumber}
 use Rattle.lines.specs.Places.{first, lookByte, lookAt}
-use Rattle.lines.specs.Numbers.{numberIf, numberIn, numberOf}
+use Rattle.lines.specs.Numbers.{numberIn, numberOf}
 use Rattle.lines.specs.declared.NumberRead.the-variants.{Value, Refused}
 use Rattle.lines.specs.Fields.{Sep, is-tab, is-lf, within, sep, first-within}
 

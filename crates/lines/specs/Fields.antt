@@ -1,14 +1,14 @@
 -- Laws of what stands at a place: a byte is a tab, an LF, or one within a field, and each splits the text in its own way.
 use mathlib.Core.Path.{_≡_, refl, sym, ap, subst, _∙_}
-use mathlib.Core.Bool.{Bool, true, false, _&&_, _||_, cond}
+use mathlib.Core.Bool.{Bool, true, false, _||_, cond}
 use mathlib.Core.List.{List, [], _∷_, _++_}
-use Prim.Native.Nat.{ℕ, zero, suc, _+_, _<_, _≤_}
+use Prim.Native.Nat.{ℕ, _+_}
 use native.Mathlib.Omega.{arith}
-use lib.Dec.{leb, ltb, eqb}
-use lib.ListN.{length, getD, take, drop, drop-of-length-le}
-use lib.Seq.{drop-cons, drop-drop}
+use lib.Dec.{eqb}
+use lib.ListN.{length, drop}
+use lib.Seq.{drop-drop}
 use borrow.Author.Tests.{eqb-true}
-use Rattle.document.specs.Text.{tab, lf, onto, lines, ended, fields, firstOf, othersOf, wellFormed, numbersOf}
+use Rattle.document.specs.Text.{onto, lines, ended, fields, firstOf, othersOf, wellFormed, numbersOf}
 use Rattle.lines.specs.Places.{first, more, line, after}
 
 -- what a byte is in a text

@@ -1,9 +1,9 @@
 -- What stands at a place of a text, for code that goes through it with a cursor: t is the text from that place on.
-use mathlib.Core.Bool.{Bool, true, false, _||_, cond}
+use mathlib.Core.Bool.{cond}
 use mathlib.Core.List.{List, [], _∷_}
 use Prim.Native.Nat.{ℕ, _-_}
-use lib.Dec.{leb, ltb, eqb}
-use Rattle.document.specs.Text.{tab, lf, zeroDigit, fields, firstOf, othersOf}
+use lib.Dec.{ltb, eqb}
+use Rattle.document.specs.Text.{lf, fields, firstOf, othersOf}
 
 -- the field that stands there
 abbrev pub first : List ℕ → List ℕ

@@ -1,25 +1,24 @@
 -- Laws of a line's numbers: past a tab and a number the rest of the line is a shorter one of the same kind.
 use mathlib.Core.Path.{_≡_, refl, sym, ap, subst, _∙_}
-use mathlib.Core.Bool.{Bool, true, false, not, _&&_, _||_, cond, false≢true}
+use mathlib.Core.Bool.{Bool, true, false, not, _&&_, false≢true}
 use mathlib.Core.List.{List, [], _∷_, _++_}
 use Prim.Native.Nat.{ℕ, zero, suc, _+_, _-_, _<_, _≤_, zero-le}
 use native.Mathlib.Decide.{decLe}
 use native.Mathlib.Nat.{le-refl}
 use native.Mathlib.Numerals.{add-one}
 use native.Mathlib.Omega.{arith}
-use lib.Dec.{leb, ltb, eqb}
+use lib.Dec.{eqb}
 use lib.ListN.{length, getD, take, drop, set, replicate, drop-of-length-le, List·getD-eq-default, length-set}
 use lib.Seq.{drop-cons, drop-drop, drop-nil, sets, set-out}
-use borrow.Author.Tests.{eqb-true, eq-eqb, ne-eqb}
+use borrow.Author.Tests.{ne-eqb}
 use Rattle.laws.specs.Sums.{and-l, and-r}
 use Rattle.document.specs.Reader.{pad}
 use Rattle.document.specs.Text.{same, ended, fields, valueOf, isNumber, allNumbers, valuesOf, wellFormed, numbersOf}
 use Rattle.lines.specs.declared.NumberRead.the-variants.{Value, Refused}
-use Rattle.lines.specs.declared.Row.{Row}
-use Rattle.lines.specs.Places.{first, more, line, after}
+use Rattle.lines.specs.Places.{first, more, line}
 use Rattle.lines.specs.Numbers.{numberIf, numberIn}
 use Rattle.lines.specs.Answers.{mostNumbers, noRow, rowIf, rowIn}
-use Rattle.lines.specs.Fields.{Sep, is-tab, is-lf, within, sep, fields-parts, first-within, more-within, ended-within, line-within, Past, past-first}
+use Rattle.lines.specs.Fields.{Sep, is-tab, is-lf, within, sep, fields-parts, more-within, line-within, Past, past-first}
 
 -- a byte that is not 0 stands at the front of what is left
 pub drop-byte : (s : List ℕ) (i b : ℕ) → getD s i 0 ≡ b → 0 < b → (i < length s) × (drop i s ≡ b ∷ drop (i + 1) s)

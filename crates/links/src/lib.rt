@@ -4,6 +4,7 @@ ghost use Prim.Native.Nat.{ℕ, _-_, _≤_};
 ghost use lib.ListN.{length, getD};
 ghost use Rattle.node_rows.specs.Index.{Placed};
 ghost use Rattle.index.specs.Met.{Met};
+ghost use Rattle.model.specs.Limits.{mostNodes};
 use model::Flow;
 
 // For each flow, how many of l's links have an end on its route.
@@ -13,9 +14,9 @@ pub fn touch(
     users: &[u8; node_rows::USERS],
     touched: &mut [u8; Flow::MOST],
 )
-    requires { ⌜ (2 ≤ l .nodes) × (l .nodes ≤ 17) × Placed (now rows) 1088 × ((i : ℕ) → getD (now users) i 0 ≤ 1) ⌝ }
+    requires { ⌜ (2 ≤ l .nodes) × (l .nodes ≤ mostNodes) × Placed (now rows) 1088 × ((i : ℕ) → getD (now users) i 0 ≤ 1) ⌝ }
     requires { ⌜ Met (now rows) (now users) (l .route) 0 (now touched) ⌝ }
-    ensures { λ r. ⌜ Met (now (rows .entry)) (now (users .entry)) (l .route) (l .nodes - 1) (now (touched .exit)) × (length (l .route) ≡ 17) ⌝ }
+    ensures { λ r. ⌜ Met (now (rows .entry)) (now (users .entry)) (l .route) (l .nodes - 1) (now (touched .exit)) × (length (l .route) ≡ mostNodes) ⌝ }
 {
     let n = l.links() as usize;
     let mut i: usize = 0;

@@ -1,5 +1,4 @@
-// A run of an accepted set from the fresh state.
-// The slot machine: one step of it, and a run of many.
+// The slot machine: one step of it, and a run of many from the fresh state.
 ghost use mathlib.Core.Path.{_≡_};
 ghost use mathlib.Core.Bool.{true};
 ghost use Prim.Native.Nat.{_≤_, min};
@@ -11,6 +10,7 @@ ghost use Rattle.document.specs.Machine.{runOf, stepOf};
 ghost use Rattle.machinery.specs.Links.{Routes};
 ghost use Rattle.machinery.specs.Slots.{Prepared};
 ghost use Rattle.promise.specs.Demand.{Admitted};
+ghost use Rattle.model.specs.Limits.{lastSlot, mostFlows};
 use model::Fault;
 use model::Flow;
 use model::FlowSet;
@@ -24,14 +24,14 @@ use step_parts::refused;
 use table::dues;
 use table::tables;
 
-// A budget goes as far as the last slot.
-fn slots_of(budget: u32) -> u32
-    ensures { λ r. ⌜ r ≡ min budget 4000000000 ⌝ }
+// The slot that so many slots from the fresh state's lead to, as far as the last one. The fresh state's is 0, so it has their number.
+fn reached(budget: u32) -> Slot
+    ensures { λ r. ⌜ r .0 ≡ min budget lastSlot ⌝ }
 {
     if budget <= State::LAST {
-        budget
+        Slot(budget)
     } else {
-        State::LAST
+        Slot(State::LAST)
     }
 }
 
@@ -39,16 +39,16 @@ fn slots_of(budget: u32) -> u32
 fn run_slots(
     s: FlowSet,
     fault: Fault,
-    slots: u32,
+    end: Slot,
     start: &[u32; Flow::MOST],
-    period: &[u32; Flow::MOST],
-    deadline: &[u32; Flow::MOST],
+    period: &[u16; Flow::MOST],
+    deadline: &[u16; Flow::MOST],
     work: &[u8; Flow::MOST],
     tries: &[u16; Flow::MOST],
     routes: &[[u16; Flow::MOST_NODES]; Flow::MOST],
 ) -> Ran
-    requires { ⌜ Prepared s (now start) (now period) (now deadline) (now work) × Routes s (now tries) (now routes) × (fault ≡ recordFault (used s)) × (slots ≤ 4000000000) × (length (now start) ≡ 64) ⌝ }
-    ensures { λ r. ⌜ r ≡ runOf (used s) slots ⌝ }
+    requires { ⌜ Prepared s (now start) (now period) (now deadline) (now work) × Routes s (now tries) (now routes) × (fault ≡ recordFault (used s)) × (end .0 ≤ lastSlot) × (length (now start) ≡ mostFlows) ⌝ }
+    ensures { λ r. ⌜ r ≡ runOf (used s) (end .0) ⌝ }
 {
     let count = s.count as usize;
     let map = s.map;
@@ -59,7 +59,7 @@ fn run_slots(
     let mut sent = [0u8; Flow::MOST];
     let mut order = [0usize; Flow::MOST];
     let got = pass_slots(
-        slots,
+        end.0,
         count,
         ways,
         start,
@@ -73,10 +73,7 @@ fn run_slots(
         &mut sent,
         &mut order,
     );
-    let last = State {
-        slot: Slot(slots),
-        sent,
-    };
+    let last = State { slot: end, sent };
     Ran {
         fault,
         last,
@@ -91,8 +88,8 @@ fn run_accepted(s: FlowSet, fault: Fault, budget: u32) -> Ran
     ensures { λ r. ⌜ r ≡ runOf (used s) budget ⌝ }
 {
     let mut start = [0u32; Flow::MOST];
-    let mut period = [0u32; Flow::MOST];
-    let mut deadline = [0u32; Flow::MOST];
+    let mut period = [0u16; Flow::MOST];
+    let mut deadline = [0u16; Flow::MOST];
     let mut work = [0u8; Flow::MOST];
     let mut tries = [0u16; Flow::MOST];
     let mut routes = [[0u16; Flow::MOST_NODES]; Flow::MOST];
@@ -105,11 +102,11 @@ fn run_accepted(s: FlowSet, fault: Fault, budget: u32) -> Ran
         &mut tries,
         &mut routes,
     );
-    let slots = slots_of(budget);
+    let end = reached(budget);
     run_slots(
         s,
         fault,
-        slots,
+        end,
         &start,
         &period,
         &deadline,

@@ -1,30 +1,26 @@
 -- A slot's answer from arrays: its sends, deliveries, drops and the next counts are the machine's.
 use mathlib.Core.Path.{_≡_, refl, sym, ap, ap₂, _∙_, fun-ext}
-use mathlib.Core.Bool.{Bool, true, false, not, _&&_, _||_, cond, false≢true}
+use mathlib.Core.Bool.{Bool, true, false, _&&_, cond}
 use mathlib.Core.List.{List, [], _∷_, _++_}
-use Prim.Native.Nat.{ℕ, zero, suc, _+_, _-_, _*_, _/_, _%_, _≤_, _<_, zero-le}
-use native.Mathlib.Nat.{le-refl, add-zero, add-suc}
+use Prim.Native.Nat.{ℕ, suc, _+_, _-_, _/_, _%_, _≤_, _<_}
+use native.Mathlib.Nat.{add-zero}
 use native.Mathlib.Numerals.{add-one}
-use native.Mathlib.Decide.{decLe}
 use native.Mathlib.Omega.{arith}
-use borrow.Author.Tests.{ltb-true, ltb-false, lt-ltb, le-ltb, eqb-true, leb-true}
+use borrow.Author.Tests.{ltb-true, ltb-false}
 use lib.Dec.{leb, ltb, eqb}
-use lib.ListN.{length, getD, take, set, length-append, List·getD-eq-default}
+use lib.ListN.{length, getD, take, set}
 use lib.Seq.{length-take-le, take-suc}
-use Rattle.model.specs.declared.kinds.Flow.{Flow}
 use Rattle.model.specs.declared.kinds.FlowSet.{FlowSet}
 use Rattle.model.specs.declared.kinds.Slot.{Slot}
 use Rattle.model.specs.declared.kinds.State.{State}
 use Rattle.model.specs.declared.answers.Send.{Send}
 use Rattle.model.specs.declared.answers.Delivery.{Delivery}
-use Rattle.model.specs.Limits.{mostFlows}
+use Rattle.model.specs.Limits.{lastSlot, mostChannels, mostFlows}
 use Rattle.model.specs.Sums.{bit}
-use Rattle.model.specs.Sets.{flowAt, anyOf, memb, listTo, filterTo, work}
-use Rattle.document.specs.Delay.{workAt}
-use Rattle.document.specs.Machine.{releaseAt, deadlineAt, had, ready, linkOf, tryOf, countAt, hadAt, readyAt, dueAt, linkAt, ordered, ahead, place, placedAt, radioChannel, sendOf, sendsFrom, sendsAt, countAfter, deliveredAt, deliveriesOf, droppedAt, nextState, filled, noSend, noDelivery}
-use Rattle.laws.specs.Sums.{and-l, and-r}
-use Rattle.machinery.specs.Lists.{Through, length-listTo, is-listTo, filled-put, filter-hit}
-use Rattle.machinery.specs.Dues.{Tables, Seen, next-is, ready-if}
+use Rattle.model.specs.Sets.{flowAt, memb, filterTo, work}
+use Rattle.document.specs.Machine.{releaseAt, countAt, hadAt, placedAt, radioChannel, sendOf, sendsFrom, countAfter, deliveredAt, deliveriesOf, droppedAt, nextState, filled, noSend, noDelivery}
+use Rattle.machinery.specs.Lists.{Through, is-listTo, filled-put, filter-hit}
+use Rattle.machinery.specs.Dues.{Tables, Seen, next-is}
 use Rattle.machinery.specs.Order.{Each}
 use Rattle.machinery.specs.Choice.{Choice, placed-ready}
 
@@ -149,26 +145,26 @@ pub record Delayed (t due d : ℕ) : Type 0 where
   pub begun : due ≤ t + d
   pub in-time : t < due
   pub small : d ≤ 65535
-  pub slot-le : t ≤ 4000000000
+  pub slot-le : t ≤ lastSlot
 
 -- the next send of an array
-pub sends-put : (send : ℕ → ℕ → Send) (chosen : List ℕ) (i : ℕ) (array : List Send) (x : Send) → i < 16 → i < length chosen
-    → array ≡ filled 16 noSend (sendsOf send 0 (take i chosen)) → x ≡ send (getD chosen i 0) i
-    → set array i x ≡ filled 16 noSend (sendsOf send 0 (take (i + 1) chosen))
+pub sends-put : (send : ℕ → ℕ → Send) (chosen : List ℕ) (i : ℕ) (array : List Send) (x : Send) → i < mostChannels → i < length chosen
+    → array ≡ filled mostChannels noSend (sendsOf send 0 (take i chosen)) → x ≡ send (getD chosen i 0) i
+    → set array i x ≡ filled mostChannels noSend (sendsOf send 0 (take (i + 1) chosen))
 sends-put send chosen i array x h k e f =
     let l : length (sendsOf send 0 (take i chosen)) ≡ i = length-sends send 0 (take i chosen) ∙ length-take-le i chosen (omega arith) in
     let o : 0 + length (take i chosen) ≡ i = omega (arith, length-take-le i chosen (omega arith)) in
     let w : sendsOf send 0 (take (i + 1) chosen) ≡ sendsOf send 0 (take i chosen) ++ (x ∷ []) =
     rw (add-one, take-suc chosen i 0 k, sends-more send 0 (take i chosen) (getD chosen i 0), o, f) in
-    rw w (filled-put 16 noSend (sendsOf send 0 (take i chosen)) array i x e (sym l) (rw l h))
+    rw w (filled-put mostChannels noSend (sendsOf send 0 (take i chosen)) array i x e (sym l) (rw l h))
 
 -- the next delivery of an array
-pub deliveries-put : (p : ℕ → Bool) (t : ℕ) (deadline due : List ℕ) (k n : ℕ) (array : List Delivery) (x : Delivery) → p k ≡ true → length (filterTo p k) < 16
-    → n ≡ length (filterTo p k) → array ≡ filled 16 noDelivery (deliveriesBy t deadline due (filterTo p k))
+pub deliveries-put : (p : ℕ → Bool) (t : ℕ) (deadline due : List ℕ) (k n : ℕ) (array : List Delivery) (x : Delivery) → p k ≡ true → length (filterTo p k) < mostChannels
+    → n ≡ length (filterTo p k) → array ≡ filled mostChannels noDelivery (deliveriesBy t deadline due (filterTo p k))
     → x ≡ deliveryIn k (delayIn t (getD due k 0) (getD deadline k 0))
-    → set array n x ≡ filled 16 noDelivery (deliveriesBy t deadline due (filterTo p (k + 1)))
+    → set array n x ≡ filled mostChannels noDelivery (deliveriesBy t deadline due (filterTo p (k + 1)))
 deliveries-put p t deadline due k n array x h l e f g =
     let d : List ℕ = filterTo p k in
     let m : length (deliveriesBy t deadline due d) ≡ length d = length-deliveries t deadline due d in
     rw (filter-hit p k h, deliveries-more t deadline due d k, g)
-    (filled-put 16 noDelivery (deliveriesBy t deadline due d) array n (deliveryIn k (delayIn t (getD due k 0) (getD deadline k 0))) f (e ∙ sym m) (rw m l))
+    (filled-put mostChannels noDelivery (deliveriesBy t deadline due d) array n (deliveryIn k (delayIn t (getD due k 0) (getD deadline k 0))) f (e ∙ sym m) (rw m l))

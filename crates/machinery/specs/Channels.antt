@@ -1,21 +1,20 @@
 -- Rule 5's channels: as many as the map has ones, and found by going through its bits in rising order.
 use mathlib.Core.Path.{_≡_, refl, sym, ap, ap₂, _∙_}
-use mathlib.Core.Bool.{Bool, true, false, cond}
-use mathlib.Core.List.{List, [], _∷_, _++_, append-nil}
-use Prim.Native.Nat.{ℕ, zero, suc, _+_, _-_, _*_, _/_, _%_, _^_, _≤_, _<_, zero-le}
-use native.Mathlib.Nat.{le-refl, add-zero, mod-lt, mod-eq-of-lt, add-comm}
+use mathlib.Core.Bool.{cond}
+use mathlib.Core.List.{[], _∷_, _++_, append-nil}
+use Prim.Native.Nat.{ℕ, zero, suc, _+_, _-_, _*_, _/_, _%_, _^_, _≤_, _<_}
+use native.Mathlib.Nat.{add-zero, mod-lt, mod-eq-of-lt, add-comm}
 use native.Mathlib.Numerals.{add-one, one-add}
-use native.Mathlib.Decide.{decLe}
 use native.Mathlib.Omega.{arith}
 use borrow.Author.Tests.{eq-eqb, ne-eqb}
-use lib.Count.{ones, onesIn, ones-cat, ones-step}
+use lib.Count.{ones, onesIn, ones-cat}
 use lib.Dec.{eqb, lit<}
 use lib.Arith.{lt-one}
 use lib.Pow.{mod-pow-add, pow-pos, shr-shr}
-use lib.ListN.{length, getD, length-append, List·getD-append, List·getD-eq-default}
+use lib.ListN.{length, getD, length-append, List·getD-append}
 use lib.Seq.{getD-append-seam}
 use Rattle.model.specs.Limits.{firstChannel, mostChannels}
-use Rattle.document.specs.Machine.{channelsTo, channels, radioChannel}
+use Rattle.document.specs.Machine.{channelsTo, channels}
 
 -- bit i of a map
 abbrev pub bitAt : ℕ → ℕ → ℕ

@@ -1,27 +1,27 @@
 -- One flow in one slot by its absolute deadline: a packet's release is a whole number of periods after the start, and so the slot less
 -- the place in the period. Entries beyond the last flow are those of no flow, all 0.
-use mathlib.Core.Path.{_≡_, refl, sym, ap, ap₂, _∙_, fun-ext}
-use mathlib.Core.Bool.{Bool, true, false, not, _&&_, _||_, cond, false≢true, and-assoc}
-use mathlib.Core.List.{List, [], _∷_, map}
-use Prim.Native.Nat.{ℕ, zero, suc, _+_, _-_, _*_, _/_, _%_, _≤_, _<_, zero-le, min}
-use native.Mathlib.Nat.{zero-div, div-add-mod', mod-le, sub-eq-zero-of-le, zero-mul, add-zero, mul-le-mul}
+use mathlib.Core.Path.{_≡_, refl, sym, ap, _∙_, fun-ext}
+use mathlib.Core.Bool.{Bool, true, false, _&&_, _||_, cond, false≢true}
+use mathlib.Core.List.{List, map}
+use Prim.Native.Nat.{ℕ, _+_, _-_, _*_, _/_, _%_, _≤_, _<_}
+use native.Mathlib.Nat.{zero-div, div-add-mod', sub-eq-zero-of-le, zero-mul, add-zero, mul-le-mul}
 use native.Mathlib.Decide.{decLe}
 use native.Mathlib.Omega.{arith}
-use borrow.Author.Tests.{eqb-true, eqb-false, eq-eqb, ne-eqb, lt-ltb, le-ltb, le-leb, lt-leb, leb-true, ltb-true}
+use borrow.Author.Tests.{eqb-true, eqb-false, eq-eqb, ne-eqb, le-leb, leb-true, ltb-true}
 use lib.Dec.{leb, ltb, eqb}
-use lib.ListN.{length, getD, take, length-take, length-map, List·getD-eq-default}
+use lib.ListN.{getD, take, length-take, length-map, List·getD-eq-default}
 use Rattle.model.specs.declared.kinds.Flow.{Flow}
 use Rattle.model.specs.declared.kinds.FlowSet.{FlowSet}
 use Rattle.model.specs.declared.kinds.State.{State}
-use Rattle.model.specs.Limits.{mostFlows}
+use Rattle.model.specs.Limits.{mostFlows, mostLinks}
 use Rattle.model.specs.Refusals.{good}
 use Rattle.document.specs.Reader.{recordFault}
 use Rattle.model.specs.Sums.{bit}
 use Rattle.model.specs.Sets.{noFlow, flowAt, exact, used, work}
 use Rattle.document.specs.Delay.{workAt}
-use Rattle.document.specs.Machine.{released, packetAt, releaseAt, deadlineAt, had, ready, nextCount, countAt, hadAt, readyAt, dueAt, ahead}
+use Rattle.document.specs.Machine.{released, releaseAt, deadlineAt, had, ready, nextCount, countAt, hadAt, readyAt, dueAt, ahead}
 use Rattle.laws.specs.Sums.{and-l, and-r}
-use Rattle.laws.specs.Accepted.{GoodFlow, Accepted, accepted}
+use Rattle.laws.specs.Accepted.{GoodFlow, accepted}
 use Rattle.laws.specs.Used.{used-flow, used-count}
 
 -- the absolute deadline of the latest packet, from the start, the period, the deadline and the slot
@@ -139,7 +139,7 @@ ready-by s st start deadline work due sent t v =
 -- C of an accepted flow fits a byte
 pub work-le-64 : (f : Flow) → GoodFlow f → work f ≤ 64
 work-le-64 f g =
-    let a : f .nodes - 1 ≤ 16 = omega (arith, g .nodes-le) in
+    let a : f .nodes - 1 ≤ mostLinks = omega (arith, g .nodes-le) in
     mul-le-mul a (g .tries-le)
 
 -- what the record check's acceptance says of the record itself

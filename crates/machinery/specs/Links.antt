@@ -1,9 +1,9 @@
 -- The links of a set's flows from arrays, and a filter that tells at once of most links that they share no node with a placed one.
-use mathlib.Core.Path.{_≡_, refl, sym, ap, ap₂, _∙_}
-use mathlib.Core.Bool.{Bool, true, false, not, _&&_, _||_, cond, false≢true}
+use mathlib.Core.Path.{_≡_, refl, sym, ap, _∙_}
+use mathlib.Core.Bool.{Bool, true, false}
 use mathlib.Core.List.{List, [], _∷_}
-use Prim.Native.Nat.{ℕ, zero, suc, _+_, _-_, _*_, _/_, _%_, _≤_, _<_, zero-le}
-use native.Mathlib.Nat.{le-refl, div-lt-iff-lt-mul}
+use Prim.Native.Nat.{ℕ, _+_, _-_, _/_, _%_, _<_}
+use native.Mathlib.Nat.{div-lt-iff-lt-mul}
 use native.Mathlib.Decide.{decLe}
 use native.Mathlib.Omega.{arith}
 use borrow.Author.Tests.{ne-eqb, eqb-true, eqb-false}
@@ -14,20 +14,19 @@ use Rattle.model.specs.declared.kinds.Flow.{Flow}
 use Rattle.model.specs.declared.kinds.FlowSet.{FlowSet}
 use Rattle.model.specs.Refusals.{good}
 use Rattle.document.specs.Reader.{recordFault}
-use Rattle.model.specs.Sums.{bit, anyTo}
-use Rattle.model.specs.Sets.{noFlow, exact, flowAt, used, anyOf, memb, meet, work}
+use Rattle.model.specs.Sets.{flowAt, used, anyOf, meet, work}
 use Rattle.document.specs.Delay.{workAt}
-use Rattle.document.specs.Machine.{linkOf}
 use Rattle.laws.specs.Used.{used-flow}
 use Rattle.machinery.specs.Dues.{used-none, accepted-flow}
 use Rattle.machinery.specs.Choice.{linkBy, clashEnds, link-ends}
 use Rattle.machinery.specs.States.{any-all}
+use Rattle.model.specs.Limits.{mostLinks, mostNodes}
 
 -- the first n flows' tries and routes, each in an array of its own
 pub record RoutesTo (s : FlowSet) (n : ℕ) (tries : List ℕ) (routes : List (List ℕ)) : Type 0 where
   pub tries-are : (k : ℕ) → k < n → getD tries k 0 ≡ flowAt s k .tries
   pub routes-are : (k : ℕ) → k < n → getD routes k [] ≡ flowAt s k .route
-  pub long : (k : ℕ) → k < n → length (flowAt s k .route) ≡ 17
+  pub long : (k : ℕ) → k < n → length (flowAt s k .route) ≡ mostNodes
 
 abbrev pub Routes : FlowSet → List ℕ → List (List ℕ) → Type 0
 Routes s tries routes = RoutesTo s (s .count) tries routes
@@ -36,7 +35,7 @@ pub routes-none : (s : FlowSet) (tries : List ℕ) (routes : List (List ℕ)) �
 routes-none s tries routes =
     record { tries-are = λ k h. absurd (omega arith); routes-are = λ k h. absurd (omega arith); long = λ k h. absurd (omega arith) }
 
-pub routes-next : (s : FlowSet) (n : ℕ) (tries : List ℕ) (routes : List (List ℕ)) → n < length tries → n < length routes → length (flowAt s n .route) ≡ 17
+pub routes-next : (s : FlowSet) (n : ℕ) (tries : List ℕ) (routes : List (List ℕ)) → n < length tries → n < length routes → length (flowAt s n .route) ≡ mostNodes
     → RoutesTo s n tries routes → RoutesTo s (n + 1) (set tries n (flowAt s n .tries)) (set routes n (flowAt s n .route))
 routes-next s n tries routes h i l r =
     record {
@@ -77,7 +76,7 @@ module _ (s : FlowSet) (tries : List ℕ) (routes : List (List ℕ)) (h : good (
   short = rw (used-flow s k counted) at w
 
   -- whose next link is one of the route's
-  pub link-in-route : (0 < getD tries k 0) × (getD sent k 0 / getD tries k 0 < 16)
+  pub link-in-route : (0 < getD tries k 0) × (getD sent k 0 / getD tries k 0 < mostLinks)
   link-in-route =
       let g = accepted-flow s h k counted in
       let d : getD sent k 0 / flowAt s k .tries < flowAt s k .nodes - 1 = div-lt-iff-lt-mul (g .tries-pos) .1 short in

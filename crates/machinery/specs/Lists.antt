@@ -1,20 +1,20 @@
 -- Arrays that a loop goes through or fills, and the lists of the definitions: what one entry more does.
 use mathlib.Core.Path.{_≡_, refl, sym, ap, ap₂, _∙_}
-use mathlib.Core.Bool.{Bool, true, false, not, _&&_, _||_, cond, or-true, or-false, or-assoc, or-comm, false≢true}
-use mathlib.Core.List.{List, [], _∷_, _++_, append-assoc, append-nil}
-use Prim.Native.Nat.{ℕ, zero, suc, _+_, _-_, _*_, _≤_, _<_, zero-le, min}
-use native.Mathlib.Nat.{le-refl, add-zero, add-suc}
+use mathlib.Core.Bool.{Bool, true, false, _||_, cond, or-false, or-assoc}
+use mathlib.Core.List.{List, [], _∷_, _++_, append-nil}
+use Prim.Native.Nat.{ℕ, zero, suc, _+_, _-_, _≤_, _<_, zero-le}
+use native.Mathlib.Nat.{le-refl}
 use native.Mathlib.Numerals.{add-one}
 use native.Mathlib.Decide.{decLe}
 use native.Mathlib.Omega.{arith}
-use borrow.Author.Tests.{eqb-true, eq-eqb, ne-eqb, lt-ltb, le-ltb}
+use borrow.Author.Tests.{eqb-true, lt-ltb, le-ltb}
 use lib.Dec.{eqb, ltb}
-use lib.ListN.{length, getD, take, drop, set, replicate, length-append, length-set, length-take, length-replicate, List·getD-eq-default, List·getD-append, drop-of-length-le}
-use lib.Seq.{getD-set-same, getD-set-other, take-append-le, take-all, take-append-add, take-suc, take-suc-set, set-append-left, set-at, getD-append-add, getD-append-seam, getD-at, take-take, ext-getD, take-set-le, set-append-seam, append-snoc, length-take-le, drop-cons, getD-take, take-set-lt, drop-set-lt, drop-drop}
+use lib.ListN.{length, getD, take, drop, set, replicate, length-append, length-set, length-take, length-replicate, List·getD-append, drop-of-length-le}
+use lib.Seq.{getD-set-same, getD-set-other, take-append-add, take-suc, take-suc-set, getD-at, ext-getD, set-append-seam, append-snoc, length-take-le, drop-cons, getD-take, take-set-lt, drop-set-lt, drop-drop}
 use Rattle.document.specs.Machine.{filled}
 use Rattle.model.specs.Sets.{anyOf, memb, listTo, filterTo}
 use Rattle.model.specs.Sums.{bit, sumTo, anyTo}
-use Rattle.laws.specs.Sums.{sum-le, sum-add, sum-zero, sum-next, sum-more, bit-le, bits-le}
+use Rattle.laws.specs.Sums.{sum-le, sum-add, sum-zero, sum-next, sum-more, bits-le}
 
 -- the first n entries of an array are now those of f, the others as they were
 pub record Through (f : ℕ → ℕ) (n : ℕ) (old new : List ℕ) : Type 0 where

@@ -1,11 +1,11 @@
 -- A run goes from slot to slot with its arrays: the order of the packets holds until the next release, and a slot needs no more than how many
 -- are delivered and dropped, and each flow's next count.
-use mathlib.Core.Path.{_≡_, refl, sym, ap, ap₂, _∙_}
+use mathlib.Core.Path.{_≡_, refl, sym, ap, _∙_}
 use mathlib.Core.Logic.{_⊎_, inl, inr}
-use mathlib.Core.Bool.{Bool, true, false, _&&_, cond}
+use mathlib.Core.Bool.{Bool, true, _&&_}
 use mathlib.Core.List.{List, []}
-use Prim.Native.Nat.{ℕ, zero, suc, _+_, _-_, _*_, _≤_, _<_, zero-le}
-use native.Mathlib.Nat.{le-refl, add-zero}
+use Prim.Native.Nat.{ℕ, _+_, _-_, _≤_, _<_}
+use native.Mathlib.Nat.{le-refl}
 use native.Mathlib.Omega.{arith}
 use borrow.Author.Tests.{ltb-true, lt-ltb, leb-true, le-leb}
 use lib.Dec.{leb, ltb}
@@ -14,10 +14,10 @@ use Rattle.model.specs.declared.kinds.FlowSet.{FlowSet}
 use Rattle.model.specs.declared.kinds.State.{State}
 use Rattle.model.specs.declared.answers.Fault.{Fault}
 use Rattle.model.specs.declared.answers.Stepped.{Stepped}
-use Rattle.model.specs.Limits.{lastSlot}
+use Rattle.model.specs.Limits.{lastSlot, mostFlows}
 use Rattle.model.specs.Sets.{used, filterTo}
 use Rattle.document.specs.Delay.{ways}
-use Rattle.document.specs.Machine.{ordered, place, placedAt, stepIf}
+use Rattle.document.specs.Machine.{ordered, place, placedAt}
 use Rattle.laws.specs.Accepted.{accepted, ones-pos}
 use Rattle.laws.specs.Sums.{and-l, and-r}
 use Rattle.laws.specs.Used.{used-count}
@@ -27,8 +27,8 @@ use Rattle.machinery.specs.Order.{keep, keep-ordered, lined-each}
 use Rattle.machinery.specs.Choice.{Choice, clashOf, orderedBy, place-some}
 use Rattle.machinery.specs.Links.{Routes, linkIn}
 use Rattle.machinery.specs.Answers.{deliveredBy, droppedBy}
-use Rattle.machinery.specs.Slots.{Prepared, Ready, placed-is, slot-answer, Idle, idle-slot, Running, running-next, running-idle}
-use Rattle.machinery.specs.Turns.{Turn, Turns, turn-started, Released, seen-turn, turns-next}
+use Rattle.machinery.specs.Slots.{Prepared, Ready, placed-is, slot-answer, idle-slot, Running, running-next, running-idle}
+use Rattle.machinery.specs.Turns.{Turns, turn-started, Released, seen-turn, turns-next}
 
 -- every ready packet is in the line, which is in the packets' order
 abbrev pub Line : ℕ → ℕ → List ℕ → List ℕ → List ℕ → List ℕ → List ℕ → ℕ → Type 0
@@ -41,18 +41,18 @@ pub record Await (s : FlowSet) (t : ℕ) (start period deadline work due next se
   pub turns : Turns s t start period deadline due next
   pub soon : (k : ℕ) → k < s .count → soonest ≤ getD next k 0
   pub line : t < soonest → Line (s .count) t start work due sent order lined
-  pub long-due : length due ≡ 64
-  pub long-next : length next ≡ 64
-  pub long-order : length order ≡ 64
-  pub few : lined ≤ 64
+  pub long-due : length due ≡ mostFlows
+  pub long-next : length next ≡ mostFlows
+  pub long-order : length order ≡ mostFlows
+  pub few : lined ≤ mostFlows
 
 -- slot t with its releases made
 pub record Turned (count t : ℕ) (start period deadline work due next sent due′ next′ sent′ order′ : List ℕ) (soonest′ lined′ : ℕ) : Type 0 where
   pub released : Released count t period deadline due next sent due′ next′ sent′
   pub soon : (k : ℕ) → k < count → soonest′ ≤ getD next′ k 0
   pub line : Line count t start work due′ sent′ order′ lined′
-  pub long-order : length order′ ≡ 64
-  pub few : lined′ ≤ 64
+  pub long-order : length order′ ≡ mostFlows
+  pub few : lined′ ≤ mostFlows
 
 abbrev pub stateAt : ℕ → List ℕ → State
 stateAt t sent = record { slot = record { 0 = t }; sent = sent }
@@ -111,7 +111,7 @@ module _ (s : FlowSet) (t : ℕ) (start period deadline work due next sent : Lis
       rw (le-leb (getD start k 0) t (omega arith), lt-ltb t (getD due′ k 0) (omega arith), lt-ltb (getD sent′ k 0) (getD work k 0) (omega arith))
 
   -- so the line holds on
-  pub await-next : (counts : List ℕ) (left : ℕ) → ((k : ℕ) → k < s .count → getD sent′ k 0 ≤ getD counts k 0) → left ≤ 64
+  pub await-next : (counts : List ℕ) (left : ℕ) → ((k : ℕ) → k < s .count → getD sent′ k 0 ≤ getD counts k 0) → left ≤ mostFlows
       → Line (s .count) t start work due′ sent′ order′ left
       → Await s (t + 1) start period deadline work due′ next′ counts order′ soonest′ left
   await-next counts left c f n =
@@ -163,6 +163,6 @@ module _ (s : FlowSet) (t : ℕ) (start period deadline work due next sent : Lis
           await-next counts left (λ k h. omega (arith, c .counts .below k h)) (few-left (c .left)) (line-left (c .left)),
         )
       where
-        few-left : (left ≡ lined′) ⊎ ((left ≡ 0) × (c .placed ≡ 0)) → left ≤ 64
+        few-left : (left ≡ lined′) ⊎ ((left ≡ 0) × (c .placed ≡ 0)) → left ≤ mostFlows
         few-left (inl h) = omega (arith, w .few)
         few-left (inr h) = omega (arith, h .0)

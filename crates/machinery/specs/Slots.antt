@@ -1,13 +1,12 @@
 -- A slot from arrays as a whole: what is looked at, chosen and answered is the machine's step.
 use mathlib.Core.Path.{_≡_, refl, sym, ap, ap₂, _∙_}
-use mathlib.Core.Bool.{Bool, true, false, not, _&&_, _||_, cond, false≢true}
-use mathlib.Core.List.{List, [], _∷_, _++_}
-use Prim.Native.Nat.{ℕ, zero, suc, _+_, _-_, _*_, _/_, _%_, _≤_, _<_, zero-le}
-use native.Mathlib.Nat.{le-refl, add-zero, le-trans, mul-zero}
+use mathlib.Core.Bool.{Bool, true, false, _&&_, _||_, cond}
+use mathlib.Core.List.{List, []}
+use Prim.Native.Nat.{ℕ, _+_, _-_, _/_, _%_, _≤_, _<_, zero-le}
+use native.Mathlib.Nat.{le-refl, add-zero, mul-zero}
 use native.Mathlib.Decide.{decLe}
 use native.Mathlib.Omega.{arith}
-use borrow.Author.Tests.{ltb-true, ltb-false, lt-ltb, le-ltb, eqb-true, leb-true, le-leb}
-use lib.Count.{ones, ones-le}
+use borrow.Author.Tests.{ltb-true, lt-ltb, le-ltb, eqb-true}
 use lib.Dec.{leb, ltb, eqb}
 use lib.ListN.{length, getD, take, drop, replicate}
 use lib.Seq.{length-take-le, getD-take}
@@ -15,7 +14,7 @@ use Rattle.model.specs.declared.kinds.ChannelMap.{ChannelMap}
 use Rattle.model.specs.declared.kinds.Flow.{Flow}
 use Rattle.model.specs.declared.kinds.FlowSet.{FlowSet}
 use Rattle.model.specs.declared.kinds.State.{State}
-use Rattle.model.specs.Limits.{mostFlows, lastSlot}
+use Rattle.model.specs.Limits.{lastSlot, mostChannels, mostFlows, mostLinks}
 use Rattle.model.specs.declared.answers.Send.{Send}
 use Rattle.model.specs.declared.answers.Delivery.{Delivery}
 use Rattle.model.specs.declared.answers.Fault.{Fault}
@@ -23,16 +22,16 @@ use Rattle.model.specs.declared.answers.Stepped.{Stepped}
 use Rattle.model.specs.Refusals.{good, noFault}
 use Rattle.document.specs.Reader.{recordFault}
 use Rattle.model.specs.Sums.{bit, anyTo}
-use Rattle.model.specs.Sets.{noFlow, freshState, flowAt, used, anyOf, memb, meet, filterTo, work}
+use Rattle.model.specs.Sets.{freshState, flowAt, used, anyOf, memb, meet, filterTo, work}
 use Rattle.document.specs.Delay.{ways, workAt}
-use Rattle.document.specs.Machine.{releaseAt, deadlineAt, had, ready, countAt, hadAt, readyAt, dueAt, linkOf, tryOf, linkAt, radioChannel, sendOf, ordered, place, placedAt, countAfter, deliveredAt, droppedAt, nextState, sendsAt, deliveriesOf, filled, noSend, noDelivery, stepIf, badState, runOf}
-use Rattle.laws.specs.Accepted.{Accepted, accepted}
+use Rattle.document.specs.Machine.{releaseAt, deadlineAt, ready, countAt, hadAt, readyAt, dueAt, linkOf, tryOf, linkAt, radioChannel, sendOf, ordered, place, placedAt, deliveredAt, droppedAt, nextState, sendsAt, deliveriesOf, filled, noSend, noDelivery, stepIf, badState, runOf}
+use Rattle.laws.specs.Accepted.{accepted}
 use Rattle.laws.specs.Used.{used-map, used-count, used-flow}
 use Rattle.laws.specs.Sums.{and-l, and-r}
 use Rattle.machinery.specs.Lists.{Through, through-all, getD-zeros, any-ext, filter-none}
-use Rattle.machinery.specs.Dues.{dueIn, hadIn, readyIn, aheadBy, readyBy, Tables, Seen, had-is, ready-work, ready-if, release-back, used-none, work-le-64, accepted-count}
+use Rattle.machinery.specs.Dues.{dueIn, hadIn, aheadBy, readyBy, Tables, Seen, had-is, ready-work, ready-if, release-back, used-none, work-le-64, accepted-count}
 use Rattle.machinery.specs.Order.{Each, each-at, each-wide, lined-each, ordered-each, ordered-in, keep, keep-all}
-use Rattle.machinery.specs.Choice.{Choice, linkBy, clashOf, orderedBy, placed-by, place-ext, placed-each, placed-ready, placed-le, delivered-le}
+use Rattle.machinery.specs.Choice.{Choice, linkBy, clashOf, orderedBy, placed-by, place-ext, placed-each, placed-ready, delivered-le}
 use Rattle.machinery.specs.Links.{Routes, linkIn, link-is, link-in-route}
 use Rattle.machinery.specs.States.{mostCount, GoodState, count-after-le, fresh-good, good-not-bad, next-good, next-slot, step-good, run-none, run-next}
 use Rattle.machinery.specs.Answers.{sendIn, sendsOf, sends-by, length-from, deliveredBy, deliveriesBy, length-deliveries, droppedBy, deliveries-by, delivered-by, dropped-by, after-by, next-by, Delayed}
@@ -42,8 +41,8 @@ pub record Looked (count t : ℕ) (start period deadline work sent due order sen
   pub dues : Through (λ k. dueIn (getD start k 0) (getD period k 0) (getD deadline k 0) t) count due due′
   pub hads : Through (λ k. hadIn (getD due′ k 0) (getD deadline k 0) t (getD sent k 0)) count sent sent′
   pub line : take lined order′ ≡ ordered (aheadBy due′) (readyBy start due′ sent′ work t) count
-  pub long : length order′ ≡ 64
-  pub few : lined ≤ 64
+  pub long : length order′ ≡ mostFlows
+  pub few : lined ≤ mostFlows
   pub rest : drop lined order′ ≡ drop lined order
 
 had-le : (b : Bool) (n : ℕ) → cond b 0 n ≤ n
@@ -104,10 +103,10 @@ pub record Ready (s : FlowSet) (st : State) (start deadline work due sent order 
   pub tables : Tables (used s) start deadline work
   pub seen : Seen (used s) st due sent
   pub line : keep (readyBy start due sent work (st .slot .0)) (take lined order) ≡ orderedBy (used s) (st .slot .0) start due sent work
-  pub low : (i : ℕ) → i < lined → getD order i 0 < 64
-  pub few : lined ≤ 64
-  pub long-order : length order ≡ 64
-  pub long-sent : length sent ≡ 64
+  pub low : (i : ℕ) → i < lined → getD order i 0 < mostFlows
+  pub few : lined ≤ mostFlows
+  pub long-order : length order ≡ mostFlows
+  pub long-sent : length sent ≡ mostFlows
   pub small : (k : ℕ) → getD deadline k 0 ≤ 65535
 
 module _ (s : FlowSet) (st : State) (start deadline work due sent order : List ℕ) (lined : ℕ) (r : Ready s st start deadline work due sent order lined) where
@@ -134,7 +133,7 @@ module _ (s : FlowSet) (st : State) (start deadline work due sent order : List �
 
   module _ (tries : List ℕ) (routes : List (List ℕ)) (w : Routes s tries routes) where
     -- the ready are short of their C, so their links are those of the arrays
-    pub ready-short : (k : ℕ) → getD sent k 0 < getD work k 0 → (0 < getD tries k 0) × (getD sent k 0 / getD tries k 0 < 16)
+    pub ready-short : (k : ℕ) → getD sent k 0 < getD work k 0 → (0 < getD tries k 0) × (getD sent k 0 / getD tries k 0 < mostLinks)
     ready-short k h = link-in-route s tries routes (r .good-set) w sent k (rw (r .tables .works k) at h)
 
     pub placed-is : place (ways (used s)) (clashOf (linkIn sent tries routes)) [] (keep (readyBy start due sent work (st .slot .0)) (take lined order))
@@ -165,7 +164,7 @@ module _ (s : FlowSet) (st : State) (start deadline work due sent order : List �
           (placedAt (used s) st) (placed-each (used s) st)
 
       pub placed-short : (i : ℕ) → i < n
-          → (getD chosen i 0 < 64) × (0 < getD tries (getD chosen i 0) 0) × (getD sent (getD chosen i 0) 0 / getD tries (getD chosen i 0) 0 < 16)
+          → (getD chosen i 0 < mostFlows) × (0 < getD tries (getD chosen i 0) 0) × (getD sent (getD chosen i 0) 0 / getD tries (getD chosen i 0) 0 < mostLinks)
       placed-short i h =
           let l : length (take n chosen) ≡ n = length-take-le n chosen (omega (arith, c .few, c .long-chosen)) in
           let b = rw (getD-take n chosen i 0 h) at (each-at Short (take n chosen) (rw (c .list) each-short) i (rw l h)) in
@@ -226,7 +225,7 @@ module _ (s : FlowSet) (st : State) (start deadline work due sent order : List �
         one false h = absurd (omega arith)
 
     -- there is room for all deliveries
-    pub delivered-few : length (filterTo (deliveredBy sent work marked) (s .count)) ≤ 16
+    pub delivered-few : length (filterTo (deliveredBy sent work marked) (s .count)) ≤ mostChannels
     delivered-few =
         let e = delivered-by (used s) st start deadline work due sent (r .tables) (r .seen) chosen marked n c in
         let l : length (take n chosen) ≡ n = length-take-le n chosen (omega (arith, c .few, c .long-chosen)) in
@@ -234,11 +233,11 @@ module _ (s : FlowSet) (st : State) (start deadline work due sent order : List �
 
     -- the arrays' answer is the step's
     pub slot-answer : (list : List Send) (dn : ℕ) (ds : List Delivery) (xn : ℕ) (xs counts : List ℕ)
-        → list ≡ filled 16 noSend (sendsAt (used s) st)
+        → list ≡ filled mostChannels noSend (sendsAt (used s) st)
         → dn ≡ length (filterTo (deliveredBy sent work marked) (s .count))
-        → ds ≡ filled 16 noDelivery (deliveriesBy (st .slot .0) deadline due (filterTo (deliveredBy sent work marked) (s .count)))
+        → ds ≡ filled mostChannels noDelivery (deliveriesBy (st .slot .0) deadline due (filterTo (deliveredBy sent work marked) (s .count)))
         → xn ≡ length (filterTo (droppedBy (st .slot .0) start due sent work marked) (s .count))
-        → xs ≡ filled 64 0 (filterTo (droppedBy (st .slot .0) start due sent work marked) (s .count))
+        → xs ≡ filled mostFlows 0 (filterTo (droppedBy (st .slot .0) start due sent work marked) (s .count))
         → Through (λ k. getD sent k 0 + getD marked k 0) (s .count) sent counts
         → answerOf (record { slot = record { 0 = st .slot .0 + 1 }; sent = counts }) n list dn ds xn xs ≡ stepIf (used s) st true
     unfolding nextState
@@ -259,7 +258,7 @@ module _ (s : FlowSet) (st : State) (start deadline work due sent order : List �
         next-by u st start deadline work due sent (r .tables) (r .seen) chosen marked n c counts (r .long-sent)
         (λ k h. none-sent k (rw q at h)) (through-all _ _ _ _ _ (sym q) g) in
         answer-ext (record { slot = record { 0 = st .slot .0 + 1 }; sent = counts }) (nextState u st) (ap (λ (l : List ℕ). record { slot = record { 0 = st .slot .0 + 1 }; sent = l }) nn)
-        sn a (b ∙ dl) (d ∙ ap (filled 16 noDelivery) dd) (e ∙ ap length xx) (f ∙ ap (filled 64 0) xx)
+        sn a (b ∙ dl) (d ∙ ap (filled mostChannels noDelivery) dd) (e ∙ ap length xx) (f ∙ ap (filled mostFlows 0) xx)
 
 -- a blank array whose first entries are f's reads as f, where f is 0 beyond them
 through-blank : (f : ℕ → ℕ) (n m : ℕ) (new : List ℕ) → Through f n (replicate m 0) new → ((k : ℕ) → n ≤ k → f k ≡ 0) → (k : ℕ) → getD new k 0 ≡ f k
@@ -273,19 +272,19 @@ workOf f = work f
 
 -- the arrays of a set's numbers
 pub tables-of : (s : FlowSet) (start deadline work : List ℕ)
-    → Through (λ k. flowAt (used s) k .start) (s .count) (replicate 64 0) start
-    → Through (λ k. flowAt (used s) k .deadline .0) (s .count) (replicate 64 0) deadline
-    → Through (λ k. workAt (used s) k) (s .count) (replicate 64 0) work → Tables (used s) start deadline work
+    → Through (λ k. flowAt (used s) k .start) (s .count) (replicate mostFlows 0) start
+    → Through (λ k. flowAt (used s) k .deadline .0) (s .count) (replicate mostFlows 0) deadline
+    → Through (λ k. workAt (used s) k) (s .count) (replicate mostFlows 0) work → Tables (used s) start deadline work
 tables-of s start deadline work a b c =
     record {
-      starts = through-blank _ (s .count) 64 start a (λ k h. ap (λ (f : Flow). f .start) (used-none s k h));
-      deadlines = through-blank _ (s .count) 64 deadline b (λ k h. ap (λ (f : Flow). f .deadline .0) (used-none s k h));
-      works = through-blank _ (s .count) 64 work c (λ k h. ap workOf (used-none s k h));
+      starts = through-blank _ (s .count) mostFlows start a (λ k h. ap (λ (f : Flow). f .start) (used-none s k h));
+      deadlines = through-blank _ (s .count) mostFlows deadline b (λ k h. ap (λ (f : Flow). f .deadline .0) (used-none s k h));
+      works = through-blank _ (s .count) mostFlows work c (λ k h. ap workOf (used-none s k h));
     }
 
-pub periods-of : (s : FlowSet) (period : List ℕ) → Through (λ k. flowAt (used s) k .period .0) (s .count) (replicate 64 0) period
+pub periods-of : (s : FlowSet) (period : List ℕ) → Through (λ k. flowAt (used s) k .period .0) (s .count) (replicate mostFlows 0) period
     → (k : ℕ) → getD period k 0 ≡ flowAt (used s) k .period .0
-periods-of s period a = through-blank _ (s .count) 64 period a (λ k h. ap (λ (f : Flow). f .period .0) (used-none s k h))
+periods-of s period a = through-blank _ (s .count) mostFlows period a (λ k h. ap (λ (f : Flow). f .period .0) (used-none s k h))
 
 -- 12 by arrays
 pub bad-by : (s : FlowSet) (st : State) (start deadline work : List ℕ) → Tables (used s) start deadline work
@@ -311,37 +310,37 @@ pub idle-slot : (s : FlowSet) (st : State) (start deadline work due sent order :
     → orderedBy (used s) (st .slot .0) start due sent work ≡ [] → Idle st sent (stepIf (used s) st true)
 unfolding place anyOf
 idle-slot s st start deadline work due sent order lined r none =
-    let b : List ℕ = replicate 64 0 in
-    let h : List ℕ = replicate 16 0 in
+    let b : List ℕ = replicate mostFlows 0 in
+    let h : List ℕ = replicate mostChannels 0 in
     let c : Choice (placedAt (used s) st) h b 0 =
     rw (← placed-by (used s) st start deadline work due sent (r .tables) (r .seen), none)
     (record { list = refl; marks = marks; few = zero-le; long-chosen = refl; long-marked = refl }) in
-    let d : filterTo (deliveredBy sent work b) (s .count) ≡ [] = filter-none (deliveredBy sent work b) (s .count) (λ k l. rw (getD-zeros 64 k)) in
+    let d : filterTo (deliveredBy sent work b) (s .count) ≡ [] = filter-none (deliveredBy sent work b) (s .count) (λ k l. rw (getD-zeros mostFlows k)) in
     let x : filterTo (droppedBy (st .slot .0) start due sent work b) (s .count) ≡ [] =
     filter-none (droppedBy (st .slot .0) start due sent work b) (s .count) (λ k l. not-dropped k l (droppedBy (st .slot .0) start due sent work b k) refl) in
     let e = slot-answer s st start deadline work due sent order lined r h b 0 c _ _ _ _ _ sent refl refl refl refl refl
-    (record { long = refl; below = λ k l. rw (getD-zeros 64 k, add-zero); above = λ k l. refl }) in
+    (record { long = refl; below = λ k l. rw (getD-zeros mostFlows k, add-zero); above = λ k l. refl }) in
     record {
       next-is = ap (λ (a : Stepped). a .next) (sym e);
       none-delivered = ap (λ (a : Stepped). a .deliveries) (sym e) ∙ ap length d;
       none-dropped = ap (λ (a : Stepped). a .drops) (sym e) ∙ ap length x;
     }
   where
-    marks : (k : ℕ) → getD {A = ℕ} (replicate 64 0) k 0 ≡ bit (memb k [])
-    marks k = getD-zeros 64 k
+    marks : (k : ℕ) → getD {A = ℕ} (replicate mostFlows 0) k 0 ≡ bit (memb k [])
+    marks k = getD-zeros mostFlows k
 
-    not-dropped : (k : ℕ) → k < s .count → (b : Bool) → droppedBy (st .slot .0) start due sent work (replicate 64 0) k ≡ b → b ≡ false
+    not-dropped : (k : ℕ) → k < s .count → (b : Bool) → droppedBy (st .slot .0) start due sent work (replicate mostFlows 0) k ≡ b → b ≡ false
     not-dropped k l false e = refl
     not-dropped k l true e =
         let t = st .slot .0 in
         let p = leb (getD start k 0) t in
         let q = eqb (t + 1) (getD due k 0) in
-        let w = and-l (p && q) (ltb (getD sent k 0 + getD {A = ℕ} (replicate 64 0) k 0) (getD work k 0)) e in
-        let i : getD sent k 0 + getD {A = ℕ} (replicate 64 0) k 0 < getD work k 0 =
-        ltb-true _ _ (and-r (p && q) (ltb (getD sent k 0 + getD {A = ℕ} (replicate 64 0) k 0) (getD work k 0)) e) in
+        let w = and-l (p && q) (ltb (getD sent k 0 + getD {A = ℕ} (replicate mostFlows 0) k 0) (getD work k 0)) e in
+        let i : getD sent k 0 + getD {A = ℕ} (replicate mostFlows 0) k 0 < getD work k 0 =
+        ltb-true _ _ (and-r (p && q) (ltb (getD sent k 0 + getD {A = ℕ} (replicate mostFlows 0) k 0) (getD work k 0)) e) in
         let u = eqb-true (t + 1) (getD due k 0) (and-r p q w) in
         let y : readyBy start due sent work t k ≡ true =
-        rw (and-l p q w, lt-ltb t (getD due k 0) (omega arith), lt-ltb (getD sent k 0) (getD work k 0) (omega (arith, getD-zeros 64 k))) in
+        rw (and-l p q w, lt-ltb t (getD due k 0) (omega arith), lt-ltb (getD sent k 0) (getD work k 0) (omega (arith, getD-zeros mostFlows k))) in
         let z = ordered-in (aheadBy due) (readyBy start due sent work t) (used s .count) k (rw (used-count s) l) y in
         absurd (omega (arith, ap length none))
 
@@ -355,19 +354,19 @@ pub record Prepared (s : FlowSet) (start period deadline work : List ℕ) : Type
   pub small-deadline : (k : ℕ) → getD deadline k 0 ≤ 65535
 
 pub prepared : (s : FlowSet) (start period deadline work : List ℕ) → good (recordFault (used s) .refusal) ≡ true
-    → Through (λ k. flowAt (used s) k .start) (s .count) (replicate 64 0) start
-    → Through (λ k. flowAt (used s) k .period .0) (s .count) (replicate 64 0) period
-    → Through (λ k. flowAt (used s) k .deadline .0) (s .count) (replicate 64 0) deadline
-    → Through (λ k. workAt (used s) k) (s .count) (replicate 64 0) work
+    → Through (λ k. flowAt (used s) k .start) (s .count) (replicate mostFlows 0) start
+    → Through (λ k. flowAt (used s) k .period .0) (s .count) (replicate mostFlows 0) period
+    → Through (λ k. flowAt (used s) k .deadline .0) (s .count) (replicate mostFlows 0) deadline
+    → Through (λ k. workAt (used s) k) (s .count) (replicate mostFlows 0) work
     → ((k : ℕ) → k < s .count → (getD start k 0 ≤ 65535) × (getD period k 0 ≤ 65535) × (getD deadline k 0 ≤ 65535)) → Prepared s start period deadline work
 prepared s start period deadline work g a b c d m =
     record {
       good-set = g;
       tables = tables-of s start deadline work a c d;
       periods = periods-of s period b;
-      small-start = λ k. elim (decLe (s .count) k) [ yes h ↦ rw (a .above k h, getD-zeros 64 k) zero-le | no h ↦ m k (omega arith) .0 ];
-      small-period = λ k. elim (decLe (s .count) k) [ yes h ↦ rw (b .above k h, getD-zeros 64 k) zero-le | no h ↦ m k (omega arith) .1 ];
-      small-deadline = λ k. elim (decLe (s .count) k) [ yes h ↦ rw (c .above k h, getD-zeros 64 k) zero-le | no h ↦ m k (omega arith) .2 ];
+      small-start = λ k. elim (decLe (s .count) k) [ yes h ↦ rw (a .above k h, getD-zeros mostFlows k) zero-le | no h ↦ m k (omega arith) .0 ];
+      small-period = λ k. elim (decLe (s .count) k) [ yes h ↦ rw (b .above k h, getD-zeros mostFlows k) zero-le | no h ↦ m k (omega arith) .1 ];
+      small-deadline = λ k. elim (decLe (s .count) k) [ yes h ↦ rw (c .above k h, getD-zeros mostFlows k) zero-le | no h ↦ m k (omega arith) .2 ];
     }
 
 -- what a look at the flows asks

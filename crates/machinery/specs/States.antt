@@ -1,16 +1,16 @@
 -- Good states: 12 finds no fault in them, a step leads from one to the next, and a run of n slots from the fresh state ends in a good one
 -- at slot n, as far as the last slot, where a step changes nothing.
 use mathlib.Core.Path.{_≡_, refl, sym, ap, ap₂, _∙_}
-use mathlib.Core.Bool.{Bool, true, false, not, _&&_, _||_, cond, false≢true}
-use mathlib.Core.List.{List, [], _∷_, _++_}
-use Prim.Native.Nat.{ℕ, zero, suc, _+_, _-_, _*_, _≤_, _<_, zero-le, min}
-use native.Mathlib.Nat.{le-refl, add-zero, add-suc}
+use mathlib.Core.Bool.{Bool, true, false, _||_, cond, false≢true}
+use mathlib.Core.List.{[]}
+use Prim.Native.Nat.{ℕ, zero, suc, _+_, _-_, _≤_, _<_, zero-le, min}
+use native.Mathlib.Nat.{le-refl, add-zero}
 use native.Mathlib.Numerals.{add-one}
 use native.Mathlib.Decide.{decLe}
 use native.Mathlib.Omega.{arith}
 use borrow.Author.Tests.{ltb-false, ltb-true, le-ltb, lt-ltb, lt-leb, le-leb, leb-false}
 use lib.Dec.{leb, ltb, eqb}
-use lib.ListN.{length, getD, replicate, length-replicate, getD-replicate, List·getD-eq-default}
+use lib.ListN.{length, length-replicate, List·getD-eq-default}
 use Rattle.model.specs.declared.kinds.FlowSet.{FlowSet}
 use Rattle.model.specs.declared.kinds.State.{State}
 use Rattle.model.specs.declared.answers.Fault.{Fault}
@@ -18,14 +18,13 @@ use Rattle.model.specs.declared.answers.Stepped.{Stepped}
 use Rattle.model.specs.declared.answers.Ran.{Ran}
 use Rattle.model.specs.declared.answers.Refusal.the-variants.{AtLastSlot, BadState}
 use Rattle.model.specs.Limits.{mostFlows, lastSlot}
-use Rattle.model.specs.Refusals.{good, faultAt, noFault, orElse}
+use Rattle.model.specs.Refusals.{good, faultAt, noFault}
 use Rattle.model.specs.Sums.{bit, anyTo}
-use Rattle.model.specs.Sets.{flowAt, freshState, memb, listTo}
+use Rattle.model.specs.Sets.{flowAt, freshState, memb}
 use Rattle.document.specs.Reader.{recordFault}
 use Rattle.document.specs.Delay.{workAt}
-use Rattle.document.specs.Machine.{releaseAt, had, ready, nextCount, countAt, hadAt, readyAt, placedAt, countAfter, nextState, badState, stepFault, stepped, stepIf, stepOf, runMore, runOf}
+use Rattle.document.specs.Machine.{releaseAt, countAt, hadAt, placedAt, countAfter, nextState, badState, stepFault, stepped, stepIf, stepOf, runMore, runOf}
 use Rattle.laws.specs.Sums.{any-none}
-use Rattle.laws.specs.Accepted.{Accepted, accepted}
 use Rattle.machinery.specs.Lists.{length-listTo, getD-listTo, getD-zeros}
 use Rattle.machinery.specs.Dues.{next-is, ready-if}
 use Rattle.machinery.specs.Choice.{placed-ready}

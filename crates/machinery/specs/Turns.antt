@@ -1,10 +1,10 @@
 -- A run goes from slot to slot without a division: beside a flow's absolute deadline it keeps the flow's next release. Only where that is the
 -- present slot does either of them change, and only there does the packet's count start again.
-use mathlib.Core.Path.{_≡_, refl, sym, ap, ap₂, _∙_}
+use mathlib.Core.Path.{_≡_, refl, sym, ap, _∙_}
 use mathlib.Core.Logic.{_⊎_, inl, inr}
 use mathlib.Core.Bool.{Bool, true, false, cond}
 use mathlib.Core.List.{List}
-use Prim.Native.Nat.{ℕ, zero, suc, _+_, _-_, _*_, _/_, _≤_, _<_, zero-le}
+use Prim.Native.Nat.{ℕ, suc, _+_, _-_, _*_, _≤_, _<_, zero-le}
 use native.Mathlib.Nat.{le-refl, suc-mul, zero-mul}
 use native.Mathlib.Decide.{decLe}
 use native.Mathlib.Omega.{arith}
@@ -16,8 +16,7 @@ use lib.Seq.{getD-set-same, getD-set-other}
 use Rattle.model.specs.declared.kinds.FlowSet.{FlowSet}
 use Rattle.model.specs.declared.kinds.State.{State}
 use Rattle.model.specs.Sets.{flowAt, used}
-use Rattle.document.specs.Machine.{deadlineAt, countAt, hadAt, dueAt}
-use Rattle.laws.specs.Used.{used-count}
+use Rattle.document.specs.Machine.{countAt, hadAt, dueAt}
 use Rattle.machinery.specs.Lists.{Through, through-next, through-stay}
 use Rattle.machinery.specs.Dues.{dueIn, due-first, hadIn, had-is, Seen}
 use Rattle.machinery.specs.States.{GoodState}

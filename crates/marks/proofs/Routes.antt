@@ -7,12 +7,11 @@ use native.Mathlib.Nat.{add-zero}
 use native.Mathlib.Numerals.{add-one}
 use native.Mathlib.Omega.{arith}
 use borrow.Author.Tests.{ne-eqb}
-use lib.Dec.{eqb}
 use native.Mathlib.Decide.{decLe, ℕ-discrete}
 use lib.ListN.{length, getD, take, drop, set, drop-of-length-le, length-take, length-set}
 use lib.Seq.{drop-cons, getD-take, length-take-le, getD-set-same, getD-set-other}
 use Rattle.model.specs.declared.kinds.Flow.{Flow}
-use Rattle.model.specs.Sums.{bit, sumTo, anyTo}
+use Rattle.model.specs.Sums.{bit, anyTo}
 use Rattle.model.specs.Sets.{anyOf, memb, meet, exact, links}
 use Rattle.document.specs.Delay.{touches, conflictWork}
 use Rattle.laws.specs.Sums.{sum-ext}

@@ -10,11 +10,12 @@ ghost use mathlib.Core.Bool.{cond};
 ghost use lib.Dec.{eqb};
 ghost use Rattle.marks.specs.Marks.{SearchFrom, Marked, endOn, endsOn};
 ghost use Rattle.model.specs.Sums.{bit};
+ghost use Rattle.model.specs.Limits.{mostLinks, mostNodes};
 use model::Flow;
 
 // Whether a node stands among the first n of a route, from a place on.
 fn stands_from(route: [u16; Flow::MOST_NODES], node: u16, from: usize, n: usize) -> bool
-    requires { ⌜ n ≤ 17 ⌝ }
+    requires { ⌜ n ≤ mostNodes ⌝ }
     ensures { λ r. ⌜ r ≡ memb node (drop from (take n route)) ⌝ }
 {
     let mut j = from;
@@ -36,7 +37,7 @@ fn stands_later(
     from: usize,
     n: usize,
 ) -> bool
-    requires { ⌜ n ≤ 17 ⌝ }
+    requires { ⌜ n ≤ mostNodes ⌝ }
     requires { ⌜ SeenFrom (now seen) route from n ⌝ }
     ensures { λ r. ⌜ r ≡ memb node (drop from (take n route)) ⌝ }
 {
@@ -49,7 +50,7 @@ fn stands_later(
 
 // Rule 8: a node twice among the first n of a route, looked for from the last node to the first.
 pub fn repeats(route: [u16; Flow::MOST_NODES], n: usize) -> bool
-    requires { ⌜ n ≤ 17 ⌝ }
+    requires { ⌜ n ≤ mostNodes ⌝ }
     ensures { λ r. ⌜ r ≡ twice (take n route) ⌝ }
 {
     let mut seen = [0u8; 256];
@@ -87,7 +88,7 @@ fn touches(
     i: usize,
     m: &[u8; 256],
 ) -> bool
-    requires { ⌜ (n ≤ 17) × (i < 16) × (length (now mine) ≡ 17) × Marked (now m) (now mine) n ⌝ }
+    requires { ⌜ (n ≤ mostNodes) × (i < mostLinks) × (length (now mine) ≡ mostNodes) × Marked (now m) (now mine) n ⌝ }
     ensures { λ r. ⌜ r ≡ endOn (now (other .entry)) (take n (now (mine .entry))) i ⌝ }
 {
     let mut found = false;
@@ -123,8 +124,8 @@ pub fn links_touched(
     other: &[u16; Flow::MOST_NODES],
     m: &[u8; 256],
 ) -> u16
-    requires { ⌜ (n ≤ 17) × (links ≤ 16) × (length (now mine) ≡ 17) × Marked (now m) (now mine) n ⌝ }
-    ensures { λ r. ⌜ (r ≡ endsOn (now (other .entry)) (take n (now (mine .entry))) links) × (r ≤ 16) ⌝ }
+    requires { ⌜ (n ≤ mostNodes) × (links ≤ mostLinks) × (length (now mine) ≡ mostNodes) × Marked (now m) (now mine) n ⌝ }
+    ensures { λ r. ⌜ (r ≡ endsOn (now (other .entry)) (take n (now (mine .entry))) links) × (r ≤ mostLinks) ⌝ }
 {
     let mut touched: u16 = 0;
     let mut i: usize = 0;

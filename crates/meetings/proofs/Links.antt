@@ -1,26 +1,25 @@
 -- Links by the index: a link counts for a flow where one of its ends' rows has the flow, and that is where the definitions count it.
 use mathlib.Core.Path.{_≡_, refl, sym, ap, ap₂, _∙_}
 use mathlib.Core.Bool.{Bool, true, false, _||_}
-use mathlib.Core.List.{List, [], _∷_}
+use mathlib.Core.List.{List}
 use mathlib.Core.Logic.{_⊎_, inl, inr, _≢_}
-use Prim.Native.Nat.{ℕ, zero, suc, _+_, _-_, _*_, _≤_, _<_, max, zero-le}
-use native.Mathlib.Nat.{le-trans, le-of-eq, add-zero}
-use native.Mathlib.Decide.{decLe, ℕ-discrete}
+use Prim.Native.Nat.{ℕ, _+_, _-_, _*_, _≤_, _<_, max, zero-le}
+use native.Mathlib.Nat.{add-zero}
+use native.Mathlib.Decide.{decLe}
 use native.Mathlib.Omega.{arith}
-use lib.ListN.{length, getD, take, drop, set, replicate, length-set, length-replicate}
+use lib.ListN.{length, getD, set, length-set}
 use lib.Seq.{getD-set-same, getD-set-other}
 use Rattle.model.specs.declared.kinds.Flow.{Flow}
 use Rattle.model.specs.declared.kinds.FlowSet.{FlowSet}
 use Rattle.model.specs.Limits.{mostFlows}
-use Rattle.model.specs.Sums.{bit, sumTo, anyTo}
-use Rattle.model.specs.Sets.{flowAt, memb, meet, exact, used, links}
+use Rattle.model.specs.Sums.{bit, anyTo}
+use Rattle.model.specs.Sets.{flowAt, memb, exact, used, links}
 use Rattle.document.specs.Delay.{touches, conflictWork}
-use Rattle.laws.specs.Sums.{sum-next, sum-ext, sum-zero}
+use Rattle.laws.specs.Sums.{sum-ext}
 use Rattle.laws.specs.Used.{used-flow}
 use Rattle.tables.specs.Grid.{pairAt, conflictOf, RowsTo}
-use Rattle.tables.proofs.Fill.{zeros}
 use Rattle.marks.proofs.Routes.{meet-ends}
-use Rattle.node_rows.specs.Index.{Rowed, PlacedTo, UsersTo}
+use Rattle.node_rows.specs.Index.{PlacedTo, UsersTo}
 use Rattle.index.specs.Met.{either, metTo}
 use Rattle.meetings.specs.Columns.{ColumnDone, ColumnsTo}
 

@@ -8,6 +8,7 @@ ghost use Rattle.tables.specs.Grid.{conflictOf, RowsTo};
 ghost use Rattle.node_rows.specs.Index.{Placed, PlacedTo, UsersTo};
 ghost use Rattle.meetings.specs.Columns.{ColumnDone};
 ghost use Rattle.index.specs.Met.{metTo};
+ghost use Rattle.model.specs.Limits.{mostFlows, mostLinks, mostNodes};
 use model::Flow;
 use model::FlowSet;
 
@@ -19,7 +20,7 @@ fn put_column(
     touched: &[u8; Flow::MOST],
     t: &mut [u16; tables::PAIRS],
 )
-    requires { ⌜ (n ≤ 64) × (l < 64) × (tries ≤ 4) × (length (now t) ≡ 4096) × ((k : ℕ) → getD (now touched) k 0 ≤ 16) ⌝ }
+    requires { ⌜ (n ≤ mostFlows) × (l < mostFlows) × (tries ≤ 4) × (length (now t) ≡ 4096) × ((k : ℕ) → getD (now touched) k 0 ≤ mostLinks) ⌝ }
     ensures { λ r. ⌜ ColumnDone (λ k. tries * getD (now (touched .entry)) k 0) n l (now (t .entry)) (now (t .exit)) ⌝ }
 {
     let mut k: usize = 0;
@@ -31,7 +32,7 @@ fn put_column(
 
 // A count of links times tries.
 fn times(tries: u16, count: u8) -> u16
-    requires { ⌜ (tries ≤ 4) × (count ≤ 16) ⌝ }
+    requires { ⌜ (tries ≤ 4) × (count ≤ mostLinks) ⌝ }
     ensures { λ r. ⌜ r ≡ tries * count ⌝ }
 {
     tries * (count as u16)
@@ -46,10 +47,10 @@ fn meet(
     users: &[u8; node_rows::USERS],
     t: &mut [u16; tables::PAIRS],
 )
-    requires { ⌜ (n ≤ 64) × (at < 64) × (2 ≤ l .nodes) × (l .nodes ≤ 17) × (l .tries ≤ 4) × (length (now t) ≡ 4096) ⌝ }
+    requires { ⌜ (n ≤ mostFlows) × (at < mostFlows) × (2 ≤ l .nodes) × (l .nodes ≤ mostNodes) × (l .tries ≤ 4) × (length (now t) ≡ 4096) ⌝ }
     requires { ⌜ Placed (now rows) 1088 × ((i : ℕ) → getD (now users) i 0 ≤ 1) ⌝ }
     ensures { λ r. ⌜ ColumnDone (λ k. l .tries * metTo (now (rows .entry)) (now (users .entry)) (l .route) k (l .nodes - 1)) n at (now (t .entry)) (now (t .exit)) ⌝ }
-    ensures { λ r. ⌜ length (l .route) ≡ 17 ⌝ }
+    ensures { λ r. ⌜ length (l .route) ≡ mostNodes ⌝ }
 {
     let mut touched = [0u8; Flow::MOST];
     links::touch(l, rows, users, &mut touched);

@@ -1,7 +1,7 @@
 // The kinds of thing that document 01 limits: slots, channel maps, flows, sets and states. Their layout is C's, so that a record can be
 // handed over as it is.
 ghost use mathlib.Core.Path.{_≡_};
-ghost use Prim.Native.Nat.{_+_, _-_, _≤_, min};
+ghost use Prim.Native.Nat.{_+_, _-_, _*_, _/_, _≤_, min};
 ghost use lib.Count.{ones};
 ghost use lib.Dec.{leb};
 ghost use Rattle.model.specs.Sets.{links, work, blankFlow, blankSet, freshState};
@@ -27,6 +27,32 @@ impl Slot {
         } else {
             Slot(4294967295)
         }
+    }
+
+    // The slot so many slots back; the first one, 0, where there is none.
+    pub fn back(self, count: Span) -> Slot
+        ensures { λ r. ⌜ r .0 ≡ self .0 - count .0 ⌝ }
+    {
+        let n = count.0 as u32;
+        if n <= self.0 {
+            Slot(self.0 - n)
+        } else {
+            Slot(0)
+        }
+    }
+
+    // The latest of the slots first, first + period, first + 2 · period, .. that is not after this one; the first where all are.
+    pub fn release(self, first: Slot, period: Span) -> Slot
+        ensures { λ r. ⌜ r .0 ≡ first .0 + (self .0 - first .0) / period .0 * period .0 ⌝ }
+    {
+        if self.0 <= first.0 {
+            return first;
+        }
+        let n = period.0 as u32;
+        if n == 0 {
+            return first;
+        }
+        Slot(self.0 - (self.0 - first.0) % n)
     }
 
     // How many slots after an earlier one this is; 0 where it is not after it, and never above 65,535.
@@ -128,7 +154,7 @@ impl Flow {
 
     // The start, a 16-bit number of the record, as the absolute slot of the first release.
     pub fn first_release(self) -> Slot
-        ensures { λ r. ⌜ r .0 ≡ self .start ⌝ }
+        ensures { λ r. ⌜ (r .0 ≡ self .start) × (r .0 ≤ 65535) ⌝ }
     {
         Slot(self.start as u32)
     }

@@ -1,9 +1,8 @@
 -- The index, node by node: a row is given to one node only, and a mark in it is that node's.
-use mathlib.Core.Path.{_≡_, refl, sym, ap, ap₂, _∙_}
+use mathlib.Core.Path.{_≡_, refl, sym, ap, _∙_}
 use mathlib.Core.Bool.{Bool, true, false, _||_, or-true}
 use mathlib.Core.List.{List, [], _∷_}
-use mathlib.Core.Logic.{_≢_}
-use Prim.Native.Nat.{ℕ, zero, suc, _+_, _*_, _≤_, _<_, zero-le}
+use Prim.Native.Nat.{ℕ, zero, suc, _+_, _*_, _≤_, _<_}
 use native.Mathlib.Nat.{le-trans, le-of-eq, le-refl}
 use native.Mathlib.Numerals.{add-one}
 use native.Mathlib.Decide.{decLe, ℕ-discrete}
@@ -16,7 +15,6 @@ use Rattle.model.specs.declared.kinds.FlowSet.{FlowSet}
 use Rattle.model.specs.Limits.{mostFlows, mostNodes}
 use Rattle.model.specs.Sums.{bit}
 use Rattle.model.specs.Sets.{flowAt, anyOf, memb}
-use Rattle.tables.specs.Grid.{pairAt}
 use Rattle.tables.proofs.Fill.{zeros}
 use Rattle.node_rows.specs.Index.{nodeNumbers, mostRows, Placed, Rowed, Kept, PlacedTo, Column, OtherColumns, UsersTo}
 

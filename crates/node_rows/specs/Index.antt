@@ -4,11 +4,10 @@ use mathlib.Core.List.{List}
 use mathlib.Core.Logic.{_≢_}
 use Prim.Native.Nat.{ℕ, _+_, _*_, _≤_, _<_}
 use lib.ListN.{length, getD, take}
-use Rattle.model.specs.declared.kinds.Flow.{Flow}
 use Rattle.model.specs.declared.kinds.FlowSet.{FlowSet}
 use Rattle.model.specs.Limits.{mostFlows, mostNodes}
 use Rattle.model.specs.Sums.{bit}
-use Rattle.model.specs.Sets.{flowAt, memb, exact}
+use Rattle.model.specs.Sets.{flowAt, memb}
 use Rattle.tables.specs.Grid.{pairAt}
 
 -- how many numbers a node can have, and how many rows there are: one for each place on a route, and row 0 for the nodes on none

@@ -1,5 +1,5 @@
-// S of document 01's delay tests: how much of one flow's work meets another's route.
-// The flows' numbers in arrays, and q and r of document 01's delay tests: a deadline divided by every period.
+// What document 01's delay tests ask of two flows, in arrays: S, how much of one flow's work meets the other's route, and q and r, a deadline
+// divided by a period.
 ghost use mathlib.Core.Path.{_≡_};
 ghost use Prim.Native.Nat.{_*_, _≤_, _<_, ℕ};
 ghost use lib.ListN.{length, getD};
@@ -8,12 +8,13 @@ ghost use Rattle.laws.specs.Accepted.{Accepted};
 ghost use Rattle.tables.specs.Grid.{conflictOf, RowsTo, RowDone};
 ghost use Rattle.marks.specs.Marks.{Marked};
 ghost use Rattle.pairs.specs.Divided.{NumbersTo, Divided};
+ghost use Rattle.model.specs.Limits.{mostFlows, mostLinks, mostNodes};
 use model::Flow;
 use model::FlowSet;
 
 // Which remainders modulo 256 the first n nodes of a route have. A node whose remainder is not marked is none of them.
 fn marks(n: usize, route: &[u16; Flow::MOST_NODES]) -> [u8; 256]
-    requires { ⌜ n ≤ 17 ⌝ }
+    requires { ⌜ n ≤ mostNodes ⌝ }
     ensures { λ r. ⌜ Marked r (now (route .entry)) n ⌝ }
 {
     let mut m = [0u8; 256];
@@ -28,7 +29,7 @@ fn marks(n: usize, route: &[u16; Flow::MOST_NODES]) -> [u8; 256]
 
 // κ times such a number.
 fn times(tries: u16, count: u16) -> u16
-    requires { ⌜ (tries ≤ 4) × (count ≤ 16) ⌝ }
+    requires { ⌜ (tries ≤ 4) × (count ≤ mostLinks) ⌝ }
     ensures { λ r. ⌜ r ≡ tries * count ⌝ }
 {
     tries * count
@@ -36,7 +37,7 @@ fn times(tries: u16, count: u16) -> u16
 
 // A flow's route: an array of as many places as a route can have.
 fn route(f: Flow) -> [u16; Flow::MOST_NODES]
-    ensures { λ r. ⌜ (r ≡ f .route) × (length r ≡ 17) ⌝ }
+    ensures { λ r. ⌜ (r ≡ f .route) × (length r ≡ mostNodes) ⌝ }
 {
     f.route
 }
@@ -108,8 +109,8 @@ pub fn divide(
     q: &mut [u16; Flow::MOST],
     remainder: &mut [u16; tables::PAIRS],
 )
-    requires { ⌜ (k < n) × (n ≤ 64) × (0 < deadline) × ((l : ℕ) → l < n → 0 < getD (now period) l 0) ⌝ }
-    requires { ⌜ (length (now q) ≡ 64) × (length (now remainder) ≡ 4096) ⌝ }
+    requires { ⌜ (k < n) × (n ≤ mostFlows) × (0 < deadline) × ((l : ℕ) → l < n → 0 < getD (now period) l 0) ⌝ }
+    requires { ⌜ (length (now q) ≡ mostFlows) × (length (now remainder) ≡ 4096) ⌝ }
     ensures { λ r. ⌜ Divided k n deadline (now (period .entry)) (now (q .entry)) (now (q .exit)) (now (remainder .entry)) (now (remainder .exit)) ⌝ }
 {
     let mut l: usize = 0;

@@ -6,7 +6,6 @@ use Prim.Native.Nat.{ℕ, _≤_, zero-le}
 use borrow.Author.Tests.{ltb-false}
 use lib.Dec.{ltb}
 use lib.ListN.{length, drop}
-use Rattle.model.specs.declared.answers.Fault.{Fault}
 use Rattle.model.specs.declared.answers.Reading.{Reading}
 use Rattle.model.specs.declared.answers.Written.{Written}
 use Rattle.model.specs.declared.answers.Refusal.the-variants.{NoRoom}

@@ -11,15 +11,14 @@ use lib.ListN.{length, getD, take, drop, set, replicate, length-drop, length-set
 use lib.Seq.{take-take, take-at, getD-set-same, getD-set-other}
 use Rattle.model.specs.declared.kinds.Flow.{Flow}
 use Rattle.model.specs.declared.kinds.FlowSet.{FlowSet}
-use Rattle.model.specs.declared.answers.Fault.{Fault}
 use Rattle.model.specs.declared.answers.Reading.{Reading}
 use Rattle.model.specs.declared.answers.Refusal.{Refusal}
 use Rattle.model.specs.declared.answers.Refusal.the-variants.{BadForm}
 use Rattle.model.specs.Limits.{mostFlows, mostNodes}
-use Rattle.model.specs.Refusals.{good, faultAt, noFault, orElse}
+use Rattle.model.specs.Refusals.{good, noFault}
 use Rattle.model.specs.Sets.{noFlow, blankFlow, flowAt, exact, used}
 use Rattle.document.specs.Text.{lines, wellFormed, setWord, flowWord, numbersOf}
-use Rattle.document.specs.Reader.{mapFault, flowFault, recordFlowFault, flowsFault, recordFault, pad, flowOf, withFlow, firstLineFault, flowLineFault, refusedReading, readFlows, setOf, readLines, readText}
+use Rattle.document.specs.Reader.{mapFault, recordFlowFault, flowsFault, recordFault, pad, flowOf, withFlow, firstLineFault, flowLineFault, refusedReading, readFlows, setOf, readLines, readText}
 use Rattle.laws.specs.Accepted.{good-flow}
 use Rattle.laws.specs.Used.{used-map, used-count, used-flow}
 

@@ -4,9 +4,8 @@ use mathlib.Core.Bool.{Bool, true, false, cond}
 use Prim.Native.Nat.{ℕ, _≤_}
 use native.Mathlib.Nat.{le-refl}
 use borrow.Author.Tests.{le-leb, ltb-false}
-use lib.Dec.{ltb, leb}
+use lib.Dec.{ltb}
 use Rattle.model.specs.declared.kinds.FlowSet.{FlowSet}
-use Rattle.model.specs.declared.answers.Bounds.{Bounds}
 use Rattle.model.specs.declared.answers.Fault.{Fault}
 use Rattle.model.specs.declared.answers.Refusal.the-variants.{NoSuchFlow}
 use Rattle.model.specs.Refusals.{good, orElse, faultAt}

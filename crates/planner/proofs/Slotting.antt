@@ -1,29 +1,20 @@
 -- One slot for C is the step of the set that was read, written: the two agree on the fault, the lines and the next state.
-use mathlib.Core.Path.{_≡_, refl, sym, ap, ap₂, _∙_}
+use mathlib.Core.Path.{_≡_, refl, sym, ap, _∙_}
 use mathlib.Core.Bool.{Bool, true, false, cond, false≢true}
-use mathlib.Core.List.{List, [], _∷_, _++_}
-use Prim.Native.Nat.{ℕ, zero, suc, _+_, _≤_, _<_, _^_, zero-le}
-use native.Mathlib.Omega.{arith}
-use native.Mathlib.Nat.{le-trans}
+use mathlib.Core.List.{List, _++_}
+use Prim.Native.Nat.{ℕ, _+_, _<_}
 use borrow.Author.Tests.{eqb-true}
-use lib.Count.{ones, ones-le}
 use lib.Dec.{ltb, eqb}
-use lib.ListN.{length, take, drop, replicate, length-drop}
-use lib.Seq.{take-take, take-at}
-use Rattle.model.specs.declared.kinds.FlowSet.{FlowSet}
-use Rattle.model.specs.declared.kinds.State.{State}
+use lib.ListN.{length, drop}
 use Rattle.model.specs.declared.answers.Fault.{Fault}
 use Rattle.model.specs.declared.answers.Reading.{Reading}
-use Rattle.model.specs.declared.answers.Send.{Send}
 use Rattle.model.specs.declared.answers.Written.{Written}
 use Rattle.model.specs.declared.answers.Stepped.{Stepped}
 use Rattle.model.specs.declared.answers.Refusal.the-variants.{NoRoom, BadState}
-use Rattle.model.specs.Limits.{mostFlows, mostChannels}
 use Rattle.model.specs.Refusals.{good, faultAt, noFault, orElse}
 use Rattle.model.specs.Sets.{used}
-use Rattle.document.specs.Machine.{stepOf, stepIf, stepFault, sendsAt, sendsFrom, placedAt, nextState, noSend, filled}
-use Rattle.document.specs.Program.{stateOf, stateBytes, stateLength, sendLines, slotLines, slotFault, slotState, slotBuffer}
-use Rattle.laws.specs.Used.{used-map}
+use Rattle.document.specs.Machine.{stepOf, stepIf, stepFault, nextState}
+use Rattle.document.specs.Program.{stateOf, stateBytes, stateLength, slotLines, slotFault, slotState, slotBuffer}
 use Rattle.laws.specs.Accepted.{or-else-good}
 use Rattle.machinery.specs.Steps.{lines-of}
 use Rattle.state_bytes.specs.Bytes.{with-state}

@@ -1,15 +1,15 @@
 -- How long lines can be: no number has more than ten digits.
 use mathlib.Core.Path.{_≡_, sym, ap, _∙_}
 use mathlib.Core.List.{List, [], _∷_, _++_}
-use Prim.Native.Nat.{ℕ, zero, suc, _+_, _-_, _*_, _≤_, min, zero-le}
+use Prim.Native.Nat.{ℕ, zero, suc, _+_, _-_, _*_, _≤_}
 use native.Mathlib.Omega.{arith}
 use lib.IntN.{ℤ, pos, negsuc}
 use lib.ListN.{length, take, drop, length-append, length-take}
-use lib.Seq.{sets, sets-eq, length-sets, take-at}
+use lib.Seq.{sets-eq, length-sets, take-at}
 use Rattle.model.specs.declared.kinds.FlowSet.{FlowSet}
 use Rattle.model.specs.declared.answers.Bounds.{Bounds}
 use Rattle.model.specs.declared.answers.Send.{Send}
-use Rattle.document.specs.Text.{decimal, decimals, lineOf, tabbed}
+use Rattle.document.specs.Text.{decimals, lineOf, tabbed}
 use Rattle.document.specs.Delay.{boundsOf}
 use Rattle.document.specs.Program.{sendLines, sendNumbers, sendWord, signed, boundLine, boundLines}
 use Rattle.decimals.specs.Decimals.{decimal-most}

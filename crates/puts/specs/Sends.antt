@@ -10,6 +10,7 @@ use lib.Seq.{take-suc, take-all}
 use Rattle.model.specs.declared.answers.Send.{Send}
 use Rattle.document.specs.Text.{lineOf}
 use Rattle.document.specs.Program.{sendLines, sendNumbers, sendWord}
+use Rattle.model.specs.Limits.{mostChannels}
 
 send-append : (xs ys : List Send) → sendLines (xs ++ ys) ≡ sendLines xs ++ sendLines ys
 unfolding sendLines
@@ -31,9 +32,9 @@ send-more xs i d h =
     ∙ ap sendLines (sym (take-suc xs i d h) ∙ ap (λ (n : ℕ). take n xs) (sym (add-one i)))
 
 -- none beyond the array
-pub take-min : (xs : List Send) (n m : ℕ) → length xs ≡ 16 → m ≡ min n 16 → take m xs ≡ take n xs
+pub take-min : (xs : List Send) (n m : ℕ) → length xs ≡ mostChannels → m ≡ min n mostChannels → take m xs ≡ take n xs
 take-min xs n m h e =
-    elim (decLe n 16) [
+    elim (decLe n mostChannels) [
       | yes d ↦ let z : m ≡ n = omega arith in ap (λ (k : ℕ). take k xs) z
       | no d ↦ take-all m xs (omega arith) ∙ sym (take-all n xs (omega arith))
     ]

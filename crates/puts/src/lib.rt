@@ -1,6 +1,6 @@
-// What is put into a lent buffer from a place on: bytes, numbers, lines. Bytes beyond the buffer's end are left out, and the answer
-// is the place after them all the same, so that a text's length is found by putting it into any buffer from place 0.
-// The `refused` line and the `send` lines. Every function puts its text as far as the buffer goes, and answers the place after it.
+// What is put into a lent buffer from a place on: bytes, numbers, lines, among them the `refused` line and the `send` lines. Bytes beyond the
+// buffer's end are left out, and the answer is the place after them all the same, so that a text's length is found by putting it into any
+// buffer from place 0.
 ghost use mathlib.Core.Path.{_≡_};
 ghost use mathlib.Core.List.{[], _∷_};
 ghost use Prim.Native.Nat.{_+_, min, _≤_};
@@ -8,6 +8,7 @@ ghost use Rattle.document.specs.Text.{decimal, lineOf};
 ghost use Rattle.puts.specs.Stores.{Put, fieldsOf, lastPlace};
 ghost use lib.ListN.{take};
 ghost use Rattle.document.specs.Program.{refusedLine, sendLines, sendNumbers, sendWord};
+ghost use Rattle.model.specs.Limits.{mostChannels};
 use decimals::put_at;
 use decimals::put_digits;
 use model::ChannelMap;
@@ -110,7 +111,7 @@ fn put_send(out: &mut [u8], at: usize, x: Send) -> usize
 
 // How many sends there are: none beyond the array.
 fn number_of(n: u16) -> usize
-    ensures { λ r. ⌜ (r ≡ min n 16) × (r ≤ 16) ⌝ }
+    ensures { λ r. ⌜ (r ≡ min n mostChannels) × (r ≤ mostChannels) ⌝ }
 {
     let m = n as usize;
     if m <= ChannelMap::MOST {

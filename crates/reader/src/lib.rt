@@ -1,7 +1,5 @@
-// What a flow line of a set's text is refused for, judged by its row: its form first, then rules 3 to 9; and the flow that it gives.
-// What the first line of a set's text is refused for, judged by its row: its form first, then rule 2.
-// The flow lines of a set's text, read in turn: the first faulty line decides.
-// The reader: line by line, the first faulty line decides, and within it the lowest of 1 to 9.
+// The reader: line by line, the first faulty line decides, and within it the lowest of 1 to 9. A line is judged by its row of numbers, its form
+// first, then its rules: rule 2 of the first line, rules 3 to 9 of a flow line, which then gives its flow.
 ghost use mathlib.Core.Path.{_≡_};
 ghost use Rattle.reader.specs.FlowJudged.{flowRowFault, flowWith, nodesOf};
 ghost use Rattle.reader.specs.FirstJudged.{firstRowFault};

@@ -7,9 +7,11 @@ ghost use Rattle.model.specs.Sets.{filterTo};
 ghost use Rattle.document.specs.Machine.{filled, noDelivery};
 ghost use Rattle.machinery.specs.Lists.{Through};
 ghost use Rattle.machinery.specs.Answers.{deliveredBy, deliveriesBy, droppedBy, Delayed};
+ghost use Rattle.model.specs.Limits.{mostChannels, mostFlows};
 use model::ChannelMap;
 use model::Delivery;
 use model::Flow;
+use model::Slot;
 use model::Span;
 use packets::delay_of;
 use packets::is_delivered;
@@ -24,17 +26,16 @@ pub struct Delivered {
 pub fn deliveries(
     count: usize,
     t: u32,
-    deadline: &[u32; Flow::MOST],
+    deadline: &[u16; Flow::MOST],
     due: &[u32; Flow::MOST],
     sent: &[u8; Flow::MOST],
     work: &[u8; Flow::MOST],
     marked: &[u8; Flow::MOST],
 ) -> Delivered
-    requires { ⌜ (count ≤ 64) × (length (filterTo (deliveredBy (now sent) (now work) (now marked)) count) ≤ 16) ⌝ }
-    requires { ⌜ ((k : ℕ) → getD (now sent) k 0 ≤ 64) ⌝ }
+    requires { ⌜ (count ≤ mostFlows) × (length (filterTo (deliveredBy (now sent) (now work) (now marked)) count) ≤ mostChannels) ⌝ }
     requires { ⌜ ((k : ℕ) → getD (now marked) k 0 ≡ 1 → Delayed t (getD (now due) k 0) (getD (now deadline) k 0)) ⌝ }
     ensures count { λ r. ⌜ r .count ≡ length (filterTo (deliveredBy (now (sent .entry)) (now (work .entry)) (now (marked .entry))) count) ⌝ }
-    ensures list { λ r. ⌜ r .list ≡ filled 16 noDelivery (deliveriesBy t (now (deadline .entry)) (now (due .entry)) (filterTo (deliveredBy (now (sent .entry)) (now (work .entry)) (now (marked .entry))) count)) ⌝ }
+    ensures list { λ r. ⌜ r .list ≡ filled mostChannels noDelivery (deliveriesBy t (now (deadline .entry)) (now (due .entry)) (filterTo (deliveredBy (now (sent .entry)) (now (work .entry)) (now (marked .entry))) count)) ⌝ }
 {
     let none = Delivery {
         flow: 0,
@@ -45,7 +46,7 @@ pub fn deliveries(
     let mut k = 0;
     while k < count {
         if is_delivered(marked[k], sent[k], work[k]) {
-            let delay = delay_of(t, due[k], deadline[k]);
+            let delay = delay_of(Slot(t), Slot(due[k]), Span(deadline[k]));
             list[n] = Delivery {
                 flow: k as u16,
                 delay,
@@ -73,16 +74,16 @@ pub fn drops(
     marked: &[u8; Flow::MOST],
     out: &mut [u16; Flow::MOST],
 ) -> usize
-    requires { ⌜ (count ≤ 64) × (t ≤ 4000000000) × (now out ≡ filled 64 0 []) ⌝ }
+    requires { ⌜ (count ≤ mostFlows) × (now out ≡ filled mostFlows 0 []) ⌝ }
     requires { ⌜ ((k : ℕ) → getD (now sent) k 0 + getD (now marked) k 0 ≤ 64) ⌝ }
     ensures count { λ r. ⌜ r ≡ length (filterTo (droppedBy t (now (start .entry)) (now (due .entry)) (now (sent .entry)) (now (work .entry)) (now (marked .entry))) count) ⌝ }
-    ensures list { λ r. ⌜ now (out .exit) ≡ filled 64 0 (filterTo (droppedBy t (now (start .entry)) (now (due .entry)) (now (sent .entry)) (now (work .entry)) (now (marked .entry))) count) ⌝ }
+    ensures list { λ r. ⌜ now (out .exit) ≡ filled mostFlows 0 (filterTo (droppedBy t (now (start .entry)) (now (due .entry)) (now (sent .entry)) (now (work .entry)) (now (marked .entry))) count) ⌝ }
 {
     let mut n = 0;
     let mut k = 0;
     while k < count {
         let after = sent[k] + marked[k];
-        if is_dropped(t, start[k], due[k], after, work[k]) {
+        if is_dropped(Slot(t), Slot(start[k]), Slot(due[k]), after, work[k]) {
             out[n] = k as u16;
             n += 1;
             k += 1;
@@ -95,7 +96,7 @@ pub fn drops(
 
 // Each flow's next count: one more where it was placed.
 pub fn advance(count: usize, marked: &[u8; Flow::MOST], sent: &mut [u8; Flow::MOST])
-    requires { ⌜ (count ≤ 64) × (length (now sent) ≡ 64) × ((k : ℕ) → getD (now sent) k 0 + getD (now marked) k 0 ≤ 64) ⌝ }
+    requires { ⌜ (count ≤ mostFlows) × (length (now sent) ≡ mostFlows) × ((k : ℕ) → getD (now sent) k 0 + getD (now marked) k 0 ≤ 64) ⌝ }
     ensures { λ r. ⌜ Through (λ k. getD (now (sent .entry)) k 0 + getD (now (marked .entry)) k 0) count (now (sent .entry)) (now (sent .exit)) ⌝ }
 {
     let mut k = 0;

@@ -53,7 +53,7 @@ going-next s f c v w b g r = go b (r .flag)
         )
 
 -- the rounds of an accepted set fit a 32-bit number
-pub most-small : (s : FlowSet) → s .count ≤ 64 → ((k : ℕ) → k < s .count → deadline s k ≤ 65535) → mostRounds s ≤ 4194241
+pub most-small : (s : FlowSet) → s .count ≤ mostFlows → ((k : ℕ) → k < s .count → deadline s k ≤ 65535) → mostRounds s ≤ 4194241
 most-small s n d =
     let a = sum-le (λ k. deadline s k - workAt s k) (λ k. 65535) (s .count) (λ k h. let b = d k h in omega arith) in
     omega (arith, sum-const 65535 (s .count))

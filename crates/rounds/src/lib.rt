@@ -1,4 +1,3 @@
-// A round of document 01's tightened delay test.
 // The rounds of document 01's tightened delay test, to the first that changes nothing.
 ghost use Prim.Native.Nat.{_≤_, _<_};
 ghost use Rattle.tables.specs.Tables.{tablesOf, Tabled};
@@ -8,6 +7,7 @@ ghost use mathlib.Core.Path.{_≡_};
 ghost use Rattle.model.specs.Sets.{used};
 ghost use Rattle.document.specs.Delay.{reached};
 ghost use Rattle.laws.specs.Accepted.{Accepted};
+ghost use Rattle.model.specs.Limits.{mostFlows};
 use model::Flow;
 use model::FlowSet;
 
@@ -30,7 +30,7 @@ fn one_round<'a>(
     whole_work: &'a [u32; Flow::MOST],
     list: [u16; Flow::MOST],
 ) -> Round
-    requires { ⌜ (n ≤ 64) × (0 < m) × Below (now deadline) list n ⌝ }
+    requires { ⌜ (n ≤ mostFlows) × (0 < m) × Below (now deadline) list n ⌝ }
     requires { ⌜ Fits (tablesOf (now conflict) (now remainder) (now work) (now deadline) (now «whole_conflict») (now «whole_work»)) n ⌝ }
     ensures { λ r. ⌜ RoundFor (tablesOf (now (conflict .entry)) (now (remainder .entry)) (now (work .entry)) (now (deadline .entry)) (now («whole_conflict» .entry)) (now («whole_work» .entry))) n m list (r .gone) (r .changed) ⌝ }
     ensures { λ r. ⌜ Below (now (deadline .entry)) (r .gone) n ⌝ }

@@ -1,12 +1,13 @@
 // Rules 2 to 9 of document 01, in their order, of the numbers that a line holds: each function has two tests or so and hands the rest on,
-// so that each is proved by a short chain of tests.
-// The record check: document 01's rules 2 to 9 of a set that is handed over as a record, line by line as its text would be judged.
+// so that each is proved by a short chain of tests. And the record check: the same rules of a set that is handed over as a record, line by
+// line as its text would be judged.
 ghost use mathlib.Core.Path.{_≡_};
 ghost use lib.ListN.{take};
 ghost use Prim.Native.Nat.{_≤_, _<_};
 ghost use Rattle.rules.specs.Parts.{deadlineFault, triesFault, routeFault, workFault};
 ghost use Rattle.document.specs.Reader.{mapFault, flowFault, flowsFault, recordFlowFault, recordFault};
 ghost use Rattle.model.specs.Sets.{exact, used};
+ghost use Rattle.model.specs.Limits.{mostNodes};
 use marks::repeats;
 use model::Fault;
 use model::Flow;
@@ -15,7 +16,7 @@ use model::Refusal;
 
 // Rule 9.
 fn work_fault(deadline: u16, tries: u16, nodes: usize) -> Refusal
-    requires { ⌜ (0 < nodes) × (nodes ≤ 17) ⌝ }
+    requires { ⌜ (0 < nodes) × (nodes ≤ mostNodes) ⌝ }
     ensures { λ r. ⌜ r ≡ workFault deadline tries nodes ⌝ }
 {
     let work = (nodes - 1) * (tries as usize);

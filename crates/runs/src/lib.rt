@@ -1,5 +1,4 @@
-// The slots of a run, one after the other.
-// What is sent through slot 11.
+// The slots of a run, one after the other, and the lines of what is sent through slot 11.
 ghost use mathlib.Core.Path.{_≡_};
 ghost use Prim.Native.Nat.{_≤_};
 ghost use Rattle.model.specs.declared.kinds.FlowSet.{FlowSet};
@@ -12,6 +11,7 @@ ghost use Rattle.model.specs.Sets.{used};
 ghost use Rattle.document.specs.Reader.{recordFault};
 ghost use Rattle.document.specs.Program.{runLines};
 ghost use Rattle.puts.specs.Stores.{Put};
+ghost use Rattle.model.specs.Limits.{lastSlot};
 use model::Flow;
 use model::FlowSet;
 use model::State;
@@ -30,8 +30,8 @@ pub fn pass_slots(
     count: usize,
     ways: usize,
     start: &[u32; Flow::MOST],
-    period: &[u32; Flow::MOST],
-    deadline: &[u32; Flow::MOST],
+    period: &[u16; Flow::MOST],
+    deadline: &[u16; Flow::MOST],
     work: &[u8; Flow::MOST],
     tries: &[u16; Flow::MOST],
     routes: &[[u16; Flow::MOST_NODES]; Flow::MOST],
@@ -40,7 +40,7 @@ pub fn pass_slots(
     sent: &mut [u8; Flow::MOST],
     order: &mut [usize; Flow::MOST],
 ) -> Sums
-    requires { ⌜ (slots ≤ 4000000000) × SomeRun count ways 0 (now start) (now period) (now deadline) (now work) (now tries) (now routes) (now due) (now next) (now sent) (now order) 0 0 ⌝ }
+    requires { ⌜ (slots ≤ lastSlot) × SomeRun count ways 0 (now start) (now period) (now deadline) (now work) (now tries) (now routes) (now due) (now next) (now sent) (now order) 0 0 ⌝ }
     ensures { λ r. ⌜ ((s : FlowSet) (fault : Fault) → Underway s fault count ways 0 0 0 (now (start .entry)) (now (period .entry)) (now (deadline .entry)) (now (work .entry)) (now (tries .entry)) (now (routes .entry)) (now (due .entry)) (now (next .entry)) (now (sent .entry)) (now (order .entry)) 0 0 → Running s fault (stateAt slots (now (sent .exit))) (r .delivered) (r .dropped) slots) ⌝ }
 {
     let mut soonest = 0;

@@ -5,13 +5,14 @@ ghost use Rattle.document.specs.Reader.{flowLines, flowNumbers, textOf};
 ghost use Rattle.model.specs.Sets.{exact, used};
 ghost use Rattle.document.specs.Text.{flowWord, lineOf};
 ghost use Rattle.puts.specs.Stores.{Put};
+ghost use Rattle.model.specs.Limits.{mostFlows, mostNodes};
 use decimals::flow_numbers;
 use model::Flow;
 use model::FlowSet;
 
 // How many of them its line has: no node beyond the array.
 fn line_numbers(f: Flow) -> usize
-    ensures { λ r. ⌜ (r ≡ 4 + min (f .nodes) 17) × (r ≤ 21) ⌝ }
+    ensures { λ r. ⌜ (r ≡ 4 + min (f .nodes) mostNodes) × (r ≤ 21) ⌝ }
 {
     let n = f.nodes as usize;
     if n <= Flow::MOST_NODES {
@@ -32,7 +33,7 @@ fn put_flow(out: &mut [u8], at: usize, f: Flow) -> usize
 
 // How many flows a set has: none beyond the array.
 fn used_flows(s: FlowSet) -> usize
-    ensures { λ r. ⌜ (r ≡ min (s .count) 64) × (r ≤ 64) ⌝ }
+    ensures { λ r. ⌜ (r ≡ min (s .count) mostFlows) × (r ≤ mostFlows) ⌝ }
 {
     let n = s.count as usize;
     if n <= Flow::MOST { n } else { Flow::MOST }

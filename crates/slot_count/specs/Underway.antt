@@ -1,5 +1,5 @@
 -- A run on its way: its arrays just before a slot, for any set whose numbers they are, and what a slot makes of them.
-use mathlib.Core.Path.{_≡_, refl, sym, _∙_}
+use mathlib.Core.Path.{_≡_, refl, _∙_}
 use mathlib.Core.List.{List}
 use Prim.Native.Nat.{ℕ, _+_, _≤_, _<_, zero-le}
 use native.Mathlib.Omega.{arith}
@@ -8,7 +8,7 @@ use lib.Count.{ones}
 use lib.ListN.{getD, length, replicate}
 use Rattle.model.specs.declared.kinds.FlowSet.{FlowSet}
 use Rattle.model.specs.declared.answers.Fault.{Fault}
-use Rattle.model.specs.Limits.{lastSlot}
+use Rattle.model.specs.Limits.{lastSlot, mostChannels, mostFlows}
 use Rattle.document.specs.Reader.{recordFault}
 use Rattle.model.specs.Sets.{used}
 use Rattle.machinery.specs.Lists.{Through, getD-zeros}
@@ -21,7 +21,7 @@ use Rattle.machinery.specs.Runs.{Await, Turned, Counted, stateAt, ready-turned,
 pub record Underway (s : FlowSet) (fault : Fault) (count m t delivered dropped : ℕ) (start period deadline work tries : List ℕ) (routes : List (List ℕ)) (due next sent order : List ℕ) (soonest lined : ℕ) : Type 0 where
   pub count-is : count ≡ s .count
   pub ways-is : m ≡ ones (used s .map .0)
-  pub ways-le : m ≤ 16
+  pub ways-le : m ≤ mostChannels
   pub numbers : Prepared s start period deadline work
   pub links : Routes s tries routes
   pub awaited : Await s t start period deadline work due next sent order soonest lined
@@ -29,9 +29,9 @@ pub record Underway (s : FlowSet) (fault : Fault) (count m t delivered dropped :
 
 -- an accepted set's run before its first slot
 pub underway-first : (s : FlowSet) (fault : Fault) (count m : ℕ) (start period deadline work tries : List ℕ) (routes : List (List ℕ)) (due : List ℕ) → count ≡ s .count
-    → m ≡ ones (used s .map .0) → m ≤ 16 → Prepared s start period deadline work → Routes s tries routes → fault ≡ recordFault (used s) → length start ≡ 64
-    → Through (λ k. dueIn (getD start k 0) (getD period k 0) (getD deadline k 0) 0) (s .count) (replicate 64 0) due
-    → Underway s fault count m 0 0 0 start period deadline work tries routes due start (replicate 64 0) (replicate 64 0) 0 0
+    → m ≡ ones (used s .map .0) → m ≤ mostChannels → Prepared s start period deadline work → Routes s tries routes → fault ≡ recordFault (used s) → length start ≡ mostFlows
+    → Through (λ k. dueIn (getD start k 0) (getD period k 0) (getD deadline k 0) 0) (s .count) (replicate mostFlows 0) due
+    → Underway s fault count m 0 0 0 start period deadline work tries routes due start (replicate mostFlows 0) (replicate mostFlows 0) 0 0
 underway-first s fault count m start period deadline work tries routes due e w l p q f n d =
     record {
       count-is = e;
@@ -42,7 +42,7 @@ underway-first s fault count m start period deadline work tries routes due e w l
       awaited = record {
         turns = record {
           turn = λ k h. rw (d .below k h) (turn-first (getD start k 0) (getD period k 0) (getD deadline k 0));
-          none = λ k h. d .above k h ∙ getD-zeros 64 k;
+          none = λ k h. d .above k h ∙ getD-zeros mostFlows k;
         };
         soon = λ k h. zero-le;
         line = λ h. absurd (omega arith);

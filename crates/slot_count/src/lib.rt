@@ -7,6 +7,7 @@ ghost use Rattle.model.specs.declared.kinds.FlowSet.{FlowSet};
 ghost use Rattle.model.specs.declared.answers.Fault.{Fault};
 ghost use Rattle.machinery.specs.Runs.{Counted};
 ghost use Rattle.slot_count.specs.Underway.{Underway, SomeRun};
+ghost use Rattle.model.specs.Limits.{lastSlot, mostChannels, mostFlows, mostLinks};
 use model::ChannelMap;
 use model::Flow;
 use step_parts::choose;
@@ -40,10 +41,10 @@ fn count_slot(
     lined: usize,
     sent: &mut [u8; Flow::MOST],
 ) -> Slotted
-    requires { ⌜ (count ≤ 64) × (ways ≤ 16) × (t ≤ 4000000000) × (lined ≤ 64) × (length (now order) ≡ 64) × (length (now sent) ≡ 64) ⌝ }
-    requires { ⌜ ((i : ℕ) → i < lined → getD (now order) i 0 < 64) ⌝ }
+    requires { ⌜ (count ≤ mostFlows) × (ways ≤ mostChannels) × (t ≤ lastSlot) × (lined ≤ mostFlows) × (length (now order) ≡ mostFlows) × (length (now sent) ≡ mostFlows) ⌝ }
+    requires { ⌜ ((i : ℕ) → i < lined → getD (now order) i 0 < mostFlows) ⌝ }
     requires { ⌜ ((k : ℕ) → getD (now sent) k 0 ≤ 64) ⌝ }
-    requires { ⌜ ((k : ℕ) → getD (now sent) k 0 < getD (now work) k 0 → (0 < getD (now tries) k 0) × (getD (now sent) k 0 / getD (now tries) k 0 < 16)) ⌝ }
+    requires { ⌜ ((k : ℕ) → getD (now sent) k 0 < getD (now work) k 0 → (0 < getD (now tries) k 0) × (getD (now sent) k 0 / getD (now tries) k 0 < mostLinks)) ⌝ }
     ensures { λ r. ⌜ Counted count t ways (now (start .entry)) (now (due .entry)) (now (work .entry)) (now (tries .entry)) (now (routes .entry)) (now (order .entry)) lined (now (sent .entry)) (now (sent .exit)) (r .delivered) (r .dropped) (r .lined) ⌝ }
 {
     let mut chosen = [0usize; ChannelMap::MOST];
@@ -77,6 +78,18 @@ pub struct Passed {
     pub dropped: u32,
 }
 
+// Nothing is delivered and nothing dropped.
+fn quiet(soonest: u32, lined: usize) -> Passed
+    ensures { λ r. ⌜ (r .soonest ≡ soonest) × (r .lined ≡ lined) × (r .delivered ≡ 0) × (r .dropped ≡ 0) ⌝ }
+{
+    Passed {
+        soonest,
+        lined,
+        delivered: 0,
+        dropped: 0,
+    }
+}
+
 // One slot of a run. A slot without a ready packet sends, delivers and drops nothing, and until the next release the same holds of the slots
 // after it. The set is not handed over for each slot: what is said holds for every one whose numbers these are.
 pub fn pass_slot(
@@ -84,8 +97,8 @@ pub fn pass_slot(
     ways: usize,
     t: u32,
     start: &[u32; Flow::MOST],
-    period: &[u32; Flow::MOST],
-    deadline: &[u32; Flow::MOST],
+    period: &[u16; Flow::MOST],
+    deadline: &[u16; Flow::MOST],
     work: &[u8; Flow::MOST],
     tries: &[u16; Flow::MOST],
     routes: &[[u16; Flow::MOST_NODES]; Flow::MOST],
@@ -96,7 +109,7 @@ pub fn pass_slot(
     sent: &mut [u8; Flow::MOST],
     order: &mut [usize; Flow::MOST],
 ) -> Passed
-    requires { ⌜ (t < 4000000000) × SomeRun count ways t (now start) (now period) (now deadline) (now work) (now tries) (now routes) (now due) (now next) (now sent) (now order) soonest lined ⌝ }
+    requires { ⌜ (t < lastSlot) × SomeRun count ways t (now start) (now period) (now deadline) (now work) (now tries) (now routes) (now due) (now next) (now sent) (now order) soonest lined ⌝ }
     ensures { λ r. ⌜ ((s : FlowSet) (fault : Fault) (d x : ℕ) → Underway s fault count ways t d x (now (start .entry)) (now (period .entry)) (now (deadline .entry)) (now (work .entry)) (now (tries .entry)) (now (routes .entry)) (now (due .entry)) (now (next .entry)) (now (sent .entry)) (now (order .entry)) soonest lined → Underway s fault count ways (t + 1) (d + r .delivered) (x + r .dropped) (now (start .entry)) (now (period .entry)) (now (deadline .entry)) (now (work .entry)) (now (tries .entry)) (now (routes .entry)) (now (due .exit)) (now (next .exit)) (now (sent .exit)) (now (order .exit)) (r .soonest) (r .lined)) ⌝ }
 {
     let at = turn(
@@ -114,12 +127,7 @@ pub fn pass_slot(
         order,
     );
     if at.lined == 0 {
-        return Passed {
-            soonest: at.soonest,
-            lined: at.lined,
-            delivered: 0,
-            dropped: 0,
-        };
+        return quiet(at.soonest, at.lined);
     }
     let got = count_slot(
         count,

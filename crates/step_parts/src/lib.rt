@@ -1,6 +1,4 @@
-// Rule 4's choice among the ready packets.
-// A refused step of an accepted set: which states are refused, and the answer.
-// Rule 5: what a slot sends.
+// Parts of a step: rule 4's choice among the ready packets, rule 5's sends, and the answer of a step that is refused for its state.
 ghost use mathlib.Core.Path.{_≡_};
 ghost use mathlib.Core.List.{[]};
 ghost use Prim.Native.Nat.{ℕ, _/_, _≤_, _<_};
@@ -16,6 +14,7 @@ ghost use Rattle.model.specs.declared.answers.Refusal.the-variants.{AtLastSlot,
 ghost use Rattle.model.specs.Refusals.{faultAt, noFault};
 ghost use Rattle.model.specs.Sums.{anyTo};
 ghost use Rattle.machinery.specs.Answers.{sendIn, sendsOf};
+ghost use Rattle.model.specs.Limits.{lastSlot, mostChannels, mostFlows, mostLinks};
 use clash::ends_of;
 use clash::judge_flow;
 use model::ChannelMap;
@@ -46,10 +45,10 @@ pub fn choose(
     chosen: &mut [usize; ChannelMap::MOST],
     marked: &mut [u8; Flow::MOST],
 ) -> usize
-    requires { ⌜ (ways ≤ 16) × (lined ≤ 64) × (length (now order) ≡ 64) × (length (now chosen) ≡ 16) × (length (now marked) ≡ 64) ⌝ }
+    requires { ⌜ (ways ≤ mostChannels) × (lined ≤ mostFlows) × (length (now order) ≡ mostFlows) × (length (now chosen) ≡ mostChannels) × (length (now marked) ≡ mostFlows) ⌝ }
     requires { ⌜ ((k : ℕ) → getD (now marked) k 0 ≡ 0) ⌝ }
-    requires { ⌜ ((i : ℕ) → i < lined → getD (now order) i 0 < 64) ⌝ }
-    requires { ⌜ ((k : ℕ) → getD (now sent) k 0 < getD (now work) k 0 → (0 < getD (now tries) k 0) × (getD (now sent) k 0 / getD (now tries) k 0 < 16)) ⌝ }
+    requires { ⌜ ((i : ℕ) → i < lined → getD (now order) i 0 < mostFlows) ⌝ }
+    requires { ⌜ ((k : ℕ) → getD (now sent) k 0 < getD (now work) k 0 → (0 < getD (now tries) k 0) × (getD (now sent) k 0 / getD (now tries) k 0 < mostLinks)) ⌝ }
     ensures { λ r. ⌜ Choice (place ways (clashOf (linkIn (now (sent .entry)) (now (tries .entry)) (now (routes .entry)))) [] (keep (readyBy (now (start .entry)) (now (due .entry)) (now (sent .entry)) (now (work .entry)) t) (take lined (now (order .entry))))) (now (chosen .exit)) (now (marked .exit)) r × (drop r (now (chosen .exit)) ≡ drop r (now (chosen .entry))) ⌝ }
 {
     let mut from = [0u16; ChannelMap::MOST];
@@ -117,7 +116,7 @@ pub fn refused(fault: Fault, st: State) -> Stepped
 
 // 12: a slot above the last, or a count above its flow's C, which is 0 beyond the last flow.
 fn is_bad(t: u32, sent: &[u8; Flow::MOST], work: &[u8; Flow::MOST]) -> bool
-    ensures { λ r. ⌜ r ≡ (ltb 4000000000 t || anyTo (λ k. ltb (getD (now (work .entry)) k 0) (getD (now (sent .entry)) k 0)) 64) ⌝ }
+    ensures { λ r. ⌜ r ≡ (ltb lastSlot t || anyTo (λ k. ltb (getD (now (work .entry)) k 0) (getD (now (sent .entry)) k 0)) mostFlows) ⌝ }
 {
     if State::LAST < t {
         return true;
@@ -134,7 +133,7 @@ fn is_bad(t: u32, sent: &[u8; Flow::MOST], work: &[u8; Flow::MOST]) -> bool
 
 // What is wrong with a state, by its slot and its counts: 12, then 11.
 pub fn state_fault(t: u32, sent: &[u8; Flow::MOST], work: &[u8; Flow::MOST]) -> Fault
-    ensures { λ r. ⌜ r ≡ cond (ltb 4000000000 t || anyTo (λ k. ltb (getD (now (work .entry)) k 0) (getD (now (sent .entry)) k 0)) 64) (faultAt BadState 0) (cond (leb 4000000000 t) (faultAt AtLastSlot 0) noFault) ⌝ }
+    ensures { λ r. ⌜ r ≡ cond (ltb lastSlot t || anyTo (λ k. ltb (getD (now (work .entry)) k 0) (getD (now (sent .entry)) k 0)) mostFlows) (faultAt BadState 0) (cond (leb lastSlot t) (faultAt AtLastSlot 0) noFault) ⌝ }
 {
     if is_bad(t, sent, work) {
         return Fault {
@@ -164,7 +163,7 @@ fn send_of(
     n: u8,
     offset: usize,
 ) -> Send
-    requires { ⌜ (k < 64) × (0 < getD (now tries) k 0) × (n / getD (now tries) k 0 < 16) × (offset < 16) ⌝ }
+    requires { ⌜ (k < mostFlows) × (0 < getD (now tries) k 0) × (n / getD (now tries) k 0 < mostLinks) × (offset < mostChannels) ⌝ }
     ensures { λ r. ⌜ r ≡ sendIn (map .0) t (now (tries .entry)) (now (routes .entry)) k n offset ⌝ }
 {
     let a = ends_of(k, n, tries, routes);
@@ -197,9 +196,9 @@ pub fn sends(
     chosen: &[usize; ChannelMap::MOST],
     placed: usize,
 ) -> Sending
-    requires { ⌜ (placed ≤ 16) × (length (now chosen) ≡ 16) ⌝ }
-    requires { ⌜ ((i : ℕ) → i < placed → (getD (now chosen) i 0 < 64) × (0 < getD (now tries) (getD (now chosen) i 0) 0) × (getD (now sent) (getD (now chosen) i 0) 0 / getD (now tries) (getD (now chosen) i 0) 0 < 16)) ⌝ }
-    ensures { λ r. ⌜ r .list ≡ filled 16 noSend (sendsOf (λ k o. sendIn (map .0) t (now (tries .entry)) (now (routes .entry)) k (getD (now (sent .entry)) k 0) o) 0 (take placed (now (chosen .entry)))) ⌝ }
+    requires { ⌜ (placed ≤ mostChannels) × (length (now chosen) ≡ mostChannels) ⌝ }
+    requires { ⌜ ((i : ℕ) → i < placed → (getD (now chosen) i 0 < mostFlows) × (0 < getD (now tries) (getD (now chosen) i 0) 0) × (getD (now sent) (getD (now chosen) i 0) 0 / getD (now tries) (getD (now chosen) i 0) 0 < mostLinks)) ⌝ }
+    ensures { λ r. ⌜ r .list ≡ filled mostChannels noSend (sendsOf (λ k o. sendIn (map .0) t (now (tries .entry)) (now (routes .entry)) k (getD (now (sent .entry)) k 0) o) 0 (take placed (now (chosen .entry)))) ⌝ }
 {
     let none = Send {
         slot: Slot(0),

@@ -10,8 +10,12 @@ ghost use Rattle.document.specs.Delay.{workAt};
 ghost use Rattle.machinery.specs.Lists.{Through};
 ghost use Rattle.machinery.specs.Dues.{dueIn, hadIn};
 ghost use Rattle.machinery.specs.Links.{Routes};
+ghost use Rattle.model.specs.Limits.{lastSlot, mostFlows, mostNodes};
 use model::Flow;
 use model::FlowSet;
+use model::Slot;
+use model::Span;
+use numbers::bounded;
 use packets::due_of;
 use packets::had_of;
 
@@ -22,10 +26,10 @@ fn put_route(
     tries: &mut [u16; Flow::MOST],
     routes: &mut [[u16; Flow::MOST_NODES]; Flow::MOST],
 )
-    requires { ⌜ (k < 64) × (length (now tries) ≡ 64) × (length (now routes) ≡ 64) ⌝ }
+    requires { ⌜ (k < mostFlows) × (length (now tries) ≡ mostFlows) × (length (now routes) ≡ mostFlows) ⌝ }
     ensures tries { λ r. ⌜ now (tries .exit) ≡ set (now (tries .entry)) k (f .tries) ⌝ }
     ensures routes { λ r. ⌜ now (routes .exit) ≡ set (now (routes .entry)) k (f .route) ⌝ }
-    ensures long { λ r. ⌜ length (f .route) ≡ 17 ⌝ }
+    ensures long { λ r. ⌜ length (f .route) ≡ mostNodes ⌝ }
 {
     let route = f.route;
     tries[k] = f.tries;
@@ -36,14 +40,14 @@ fn put_route(
 pub fn tables(
     s: FlowSet,
     start: &mut [u32; Flow::MOST],
-    period: &mut [u32; Flow::MOST],
-    deadline: &mut [u32; Flow::MOST],
+    period: &mut [u16; Flow::MOST],
+    deadline: &mut [u16; Flow::MOST],
     work: &mut [u8; Flow::MOST],
     tries: &mut [u16; Flow::MOST],
     routes: &mut [[u16; Flow::MOST_NODES]; Flow::MOST],
 )
     requires { ⌜ good (recordFault (used s) .refusal) ≡ true ⌝ }
-    requires { ⌜ (length (now start) ≡ 64) × (length (now period) ≡ 64) × (length (now deadline) ≡ 64) × (length (now work) ≡ 64) × (length (now tries) ≡ 64) × (length (now routes) ≡ 64) ⌝ }
+    requires { ⌜ (length (now start) ≡ mostFlows) × (length (now period) ≡ mostFlows) × (length (now deadline) ≡ mostFlows) × (length (now work) ≡ mostFlows) × (length (now tries) ≡ mostFlows) × (length (now routes) ≡ mostFlows) ⌝ }
     ensures starts { λ r. ⌜ Through (λ k. flowAt (used s) k .start) (s .count) (now (start .entry)) (now (start .exit)) ⌝ }
     ensures periods { λ r. ⌜ Through (λ k. flowAt (used s) k .period .0) (s .count) (now (period .entry)) (now (period .exit)) ⌝ }
     ensures deadlines { λ r. ⌜ Through (λ k. flowAt (used s) k .deadline .0) (s .count) (now (deadline .entry)) (now (deadline .exit)) ⌝ }
@@ -55,9 +59,10 @@ pub fn tables(
     let mut k = 0;
     while k < count {
         let f = s.flows[k];
-        start[k] = f.start as u32;
-        period[k] = f.period.0 as u32;
-        deadline[k] = f.deadline.0 as u32;
+        let first = f.first_release();
+        start[k] = first.0;
+        period[k] = bounded(f.period.0);
+        deadline[k] = bounded(f.deadline.0);
         work[k] = f.work() as u8;
         put_route(k, f, tries, routes);
         k += 1;
@@ -69,17 +74,18 @@ pub fn dues(
     count: usize,
     t: u32,
     start: &[u32; Flow::MOST],
-    period: &[u32; Flow::MOST],
-    deadline: &[u32; Flow::MOST],
+    period: &[u16; Flow::MOST],
+    deadline: &[u16; Flow::MOST],
     due: &mut [u32; Flow::MOST],
 )
-    requires { ⌜ (count ≤ 64) × (t ≤ 4000000000) × (length (now due) ≡ 64) ⌝ }
-    requires { ⌜ ((k : ℕ) → k < count → (0 < getD (now period) k 0) × (getD (now start) k 0 ≤ 65535) × (getD (now deadline) k 0 ≤ 65535)) ⌝ }
+    requires { ⌜ (count ≤ mostFlows) × (t ≤ lastSlot) × (length (now due) ≡ mostFlows) ⌝ }
+    requires { ⌜ ((k : ℕ) → k < count → (getD (now start) k 0 ≤ 65535) × (getD (now deadline) k 0 ≤ 65535)) ⌝ }
     ensures { λ r. ⌜ Through (λ k. dueIn (getD (now (start .entry)) k 0) (getD (now (period .entry)) k 0) (getD (now (deadline .entry)) k 0) t) count (now (due .entry)) (now (due .exit)) ⌝ }
 {
     let mut k = 0;
     while k < count {
-        due[k] = due_of(start[k], period[k], deadline[k], t);
+        let end = due_of(Slot(start[k]), Span(period[k]), Span(deadline[k]), Slot(t));
+        due[k] = end.0;
         k += 1;
     }
 }
@@ -88,17 +94,17 @@ pub fn dues(
 pub fn restart(
     count: usize,
     t: u32,
-    deadline: &[u32; Flow::MOST],
+    deadline: &[u16; Flow::MOST],
     due: &[u32; Flow::MOST],
     sent: &mut [u8; Flow::MOST],
 )
-    requires { ⌜ (count ≤ 64) × (t ≤ 4000000000) × (length (now sent) ≡ 64) ⌝ }
+    requires { ⌜ (count ≤ mostFlows) × (t ≤ lastSlot) × (length (now sent) ≡ mostFlows) ⌝ }
     requires { ⌜ ((k : ℕ) → k < count → getD (now deadline) k 0 ≤ 65535) ⌝ }
     ensures { λ r. ⌜ Through (λ k. hadIn (getD (now (due .entry)) k 0) (getD (now (deadline .entry)) k 0) t (getD (now (sent .entry)) k 0)) count (now (sent .entry)) (now (sent .exit)) ⌝ }
 {
     let mut k = 0;
     while k < count {
-        sent[k] = had_of(due[k], deadline[k], t, sent[k]);
+        sent[k] = had_of(Slot(due[k]), Span(deadline[k]), Slot(t), sent[k]);
         k += 1;
     }
 }

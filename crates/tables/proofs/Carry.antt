@@ -2,8 +2,8 @@
 use mathlib.Core.Path.{_≡_, refl, sym, ap, ap₂, _∙_}
 use mathlib.Core.Bool.{Bool, true, false, cond}
 use mathlib.Core.List.{List}
-use mathlib.Core.Logic.{_⊎_, inl, inr}
-use Prim.Native.Nat.{ℕ, zero, suc, _+_, _-_, _*_, _/_, _≤_, _<_, min}
+use mathlib.Core.Logic.{inr}
+use Prim.Native.Nat.{ℕ, _+_, _-_, _*_, _≤_, _<_, min}
 use native.Mathlib.Nat.{le-trans, le-of-eq, mul-le-mul-left}
 use native.Mathlib.Omega.{arith}
 use native.Mathlib.Decide.{decLe}
@@ -13,12 +13,11 @@ use Rattle.model.specs.declared.kinds.FlowSet.{FlowSet}
 use Rattle.model.specs.Limits.{mostFlows}
 use Rattle.model.specs.Sums.{sumTo}
 use Rattle.model.specs.Sets.{flowAt}
-use Rattle.document.specs.Delay.{ways, deadline, workAt, conflictWork, wholePackets, remainder, share, wholeShare, conflictShare, overOthers, joined, boundWith, tightened, valueAt}
+use Rattle.document.specs.Delay.{ways, deadline, workAt, wholePackets, remainder, share, wholeShare, conflictShare, overOthers, joined, boundWith, tightened, valueAt}
 use Rattle.laws.specs.Sums.{sum-ext, sum-add, sum-cut}
 use Rattle.laws.specs.Values.{sums-le, others-le, bound-ext, conflict-le-work}
 use Rattle.tables.specs.Grid.{pairAt, ofOther, conflictOf}
-use Rattle.tables.specs.Tables.{Tables, remainderOf, wholeConflict, wholeWork, Tabled}
-use Rattle.tables.specs.Rows.{SmallRow}
+use Rattle.tables.specs.Tables.{Tables, remainderOf, Tabled}
 use Rattle.tables.specs.Sums.{cutAt, conflictRow, workRow, conflictSum, workSum, tableValue, Ordered, Fits}
 
 -- a share in its two parts, none for a flow itself

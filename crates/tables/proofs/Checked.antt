@@ -11,7 +11,7 @@ use lib.Count.{ones, ones-step}
 use Rattle.model.specs.declared.kinds.Flow.{Flow}
 use Rattle.model.specs.declared.kinds.FlowSet.{FlowSet}
 use Rattle.model.specs.declared.answers.Fault.{Fault}
-use Rattle.model.specs.Limits.{mostFlows}
+use Rattle.model.specs.Limits.{mostFlows, mostLinks}
 use Rattle.model.specs.Refusals.{refusalNumber, good}
 use Rattle.model.specs.Sets.{flowAt, exact, used, links, work}
 use Rattle.laws.specs.Accepted.{Accepted, GoodFlow}
@@ -36,7 +36,7 @@ count-at s a = rw (used-count s) at (a .count-le)
 pub work-small : (f : Flow) → GoodFlow f → work f ≤ 64
 work-small f g =
     let n = g .nodes-le in
-    let l : links f ≤ 16 = omega arith in
+    let l : links f ≤ mostLinks = omega arith in
     mul-le-mul l (g .tries-le)
 
 -- a map that is not 0 has a channel

@@ -17,7 +17,7 @@ use Rattle.model.specs.Sums.{allTo}
 use Rattle.model.specs.Refusals.{refusalNumber, good, noFault}
 use Rattle.model.specs.Sets.{flowAt}
 use Rattle.document.specs.Reader.{recordFault}
-use Rattle.document.specs.Delay.{deadline, workAt, basicBound, tightBound, admits, verdictIf, verdictOf, boundsIf, boundsOf}
+use Rattle.document.specs.Delay.{deadline, workAt, basicBound, tightBound, admits, verdictIf, verdictOf, boundsIf}
 use Rattle.tables.proofs.Checked.{number-zero, number-other}
 use Rattle.tables.specs.declared.AllBounds.{AllBounds}
 use Rattle.tables.specs.Answers.{AllBoundsOf}

@@ -11,6 +11,7 @@ use Rattle.document.specs.Delay.{ways, basicBound, roundOf, roundsIn, mostRound
 use Rattle.tables.specs.Grid.{FilledTo}
 use Rattle.laws.specs.Rounds.{Between, room}
 use Rattle.tables.specs.Tables.{Tables, Tabled}
+use Rattle.model.specs.Limits.{mostFlows}
 
 -- the list whose entries are so far below D
 abbrev pub leftOf : List ℕ → List ℕ → ℕ → List ℕ
@@ -30,7 +31,7 @@ pub record Judges (s : FlowSet) (t : Tables) (n m : ℕ) : Type 0 where
   pub tables : Tabled s t
   pub count : s .count ≡ n
   pub channels : ways s ≡ m
-  pub most : n ≤ 64
+  pub most : n ≤ mostFlows
 
 -- a round of that set
 abbrev pub RoundFor : Tables → ℕ → ℕ → List ℕ → List ℕ → Bool → Type 0

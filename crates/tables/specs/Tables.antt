@@ -6,7 +6,7 @@ use lib.ListN.{replicate}
 use Rattle.model.specs.Limits.{mostFlows}
 use Rattle.model.specs.declared.kinds.FlowSet.{FlowSet}
 use Rattle.document.specs.Delay.{workAt, deadline, wholePackets, remainder, overOthers}
-use Rattle.tables.specs.Grid.{ofOther, conflictOf, FilledTo, GridOf, ListOf, grid-once, list-once}
+use Rattle.tables.specs.Grid.{ofOther, conflictOf, GridOf, ListOf, grid-once, list-once}
 
 -- S and r of each pair of flows, C and D of each flow, and the sums of q·S and q·C over the others
 pub record Tables : Type 0 where

@@ -1,7 +1,6 @@
-// The releases of a run's slot. Beside each flow's absolute deadline a run keeps the flow's next release, so that a slot without a release
-// costs one comparison and one with a release divides nothing.
-// How many packets a slot delivers and drops, and each flow's next count.
-// A run's slot with its releases made and its packets in order.
+// What a run's slot begins with: its releases made and its packets in order; and what it ends with: how many packets are delivered and
+// dropped, and each flow's next count. Beside each flow's absolute deadline a run keeps the flow's next release, so that a slot without a
+// release costs one comparison and one with a release divides nothing.
 ghost use mathlib.Core.Path.{_≡_};
 ghost use Prim.Native.Nat.{ℕ, _≤_, _<_, min, _+_};
 ghost use lib.ListN.{getD, length};
@@ -11,7 +10,10 @@ ghost use Rattle.model.specs.Sets.{filterTo};
 ghost use Rattle.machinery.specs.Lists.{Through};
 ghost use Rattle.machinery.specs.Answers.{deliveredBy, droppedBy};
 ghost use Rattle.machinery.specs.Runs.{Line, Turned};
+ghost use Rattle.model.specs.Limits.{lastSlot, mostFlows};
 use model::Flow;
+use model::Slot;
+use model::Span;
 use order::line_up;
 use packets::is_delivered;
 use packets::is_dropped;
@@ -27,13 +29,13 @@ fn earlier(a: u32, b: u32) -> u32
 fn release(
     count: usize,
     t: u32,
-    period: &[u32; Flow::MOST],
-    deadline: &[u32; Flow::MOST],
+    period: &[u16; Flow::MOST],
+    deadline: &[u16; Flow::MOST],
     due: &mut [u32; Flow::MOST],
     next: &mut [u32; Flow::MOST],
     sent: &mut [u8; Flow::MOST],
 ) -> u32
-    requires { ⌜ (count ≤ 64) × (t ≤ 4000000000) × (length (now due) ≡ 64) × (length (now next) ≡ 64) × (length (now sent) ≡ 64) ⌝ }
+    requires { ⌜ (count ≤ mostFlows) × (t ≤ lastSlot) × (length (now due) ≡ mostFlows) × (length (now next) ≡ mostFlows) × (length (now sent) ≡ mostFlows) ⌝ }
     requires { ⌜ ((k : ℕ) → (getD (now period) k 0 ≤ 65535) × (getD (now deadline) k 0 ≤ 65535)) ⌝ }
     ensures released { λ r. ⌜ Released count t (now (period .entry)) (now (deadline .entry)) (now (due .entry)) (now (next .entry)) (now (sent .entry)) (now (due .exit)) (now (next .exit)) (now (sent .exit)) ⌝ }
     ensures soonest { λ r. ⌜ ((k : ℕ) → k < count → r ≤ getD (now (next .exit)) k 0) ⌝ }
@@ -43,11 +45,12 @@ fn release(
     while k < count {
         let at = next[k];
         if at == t {
-            let after = t + period[k];
-            due[k] = t + deadline[k];
-            next[k] = after;
+            let end = Slot(t).after(Span(deadline[k]));
+            let after = Slot(t).after(Span(period[k]));
+            due[k] = end.0;
+            next[k] = after.0;
             sent[k] = 0;
-            soonest = earlier(soonest, after);
+            soonest = earlier(soonest, after.0);
             k += 1;
         } else {
             soonest = earlier(soonest, at);
@@ -79,7 +82,7 @@ pub fn tally(
     marked: &[u8; Flow::MOST],
     sent: &mut [u8; Flow::MOST],
 ) -> Totals
-    requires { ⌜ (count ≤ 64) × (t ≤ 4000000000) × (length (now sent) ≡ 64) ⌝ }
+    requires { ⌜ (count ≤ mostFlows) × (length (now sent) ≡ mostFlows) ⌝ }
     requires { ⌜ ((k : ℕ) → (getD (now sent) k 0 ≤ 64) × (getD (now marked) k 0 ≤ 1)) ⌝ }
     ensures delivered { λ r. ⌜ r .delivered ≡ length (filterTo (deliveredBy (now (sent .entry)) (now (work .entry)) (now (marked .entry))) count) ⌝ }
     ensures dropped { λ r. ⌜ r .dropped ≡ length (filterTo (droppedBy t (now (start .entry)) (now (due .entry)) (now (sent .entry)) (now (work .entry)) (now (marked .entry))) count) ⌝ }
@@ -93,7 +96,7 @@ pub fn tally(
         let one = marked[k];
         let after = n + one;
         let got = is_delivered(one, n, work[k]);
-        let lost = is_dropped(t, start[k], due[k], after, work[k]);
+        let lost = is_dropped(Slot(t), Slot(start[k]), Slot(due[k]), after, work[k]);
         delivered += one_if(got);
         dropped += one_if(lost);
         sent[k] = after;
@@ -113,8 +116,8 @@ pub fn turn(
     count: usize,
     t: u32,
     start: &[u32; Flow::MOST],
-    period: &[u32; Flow::MOST],
-    deadline: &[u32; Flow::MOST],
+    period: &[u16; Flow::MOST],
+    deadline: &[u16; Flow::MOST],
     work: &[u8; Flow::MOST],
     soonest: u32,
     lined: usize,
@@ -123,7 +126,7 @@ pub fn turn(
     sent: &mut [u8; Flow::MOST],
     order: &mut [usize; Flow::MOST],
 ) -> Awaited
-    requires { ⌜ (count ≤ 64) × (t ≤ 4000000000) × (lined ≤ 64) × (length (now due) ≡ 64) × (length (now next) ≡ 64) × (length (now sent) ≡ 64) × (length (now order) ≡ 64) ⌝ }
+    requires { ⌜ (count ≤ mostFlows) × (t ≤ lastSlot) × (lined ≤ mostFlows) × (length (now due) ≡ mostFlows) × (length (now next) ≡ mostFlows) × (length (now sent) ≡ mostFlows) × (length (now order) ≡ mostFlows) ⌝ }
     requires { ⌜ ((k : ℕ) → (getD (now period) k 0 ≤ 65535) × (getD (now deadline) k 0 ≤ 65535)) ⌝ }
     requires { ⌜ ((k : ℕ) → k < count → soonest ≤ getD (now next) k 0) ⌝ }
     requires { ⌜ (t < soonest → Line count t (now start) (now work) (now due) (now sent) (now order) lined) ⌝ }

@@ -1,5 +1,4 @@
-// The verdicts of both delay tests, from the bounds of all flows.
-// One flow's bounds, from those of all flows.
+// The verdicts of both delay tests, and one flow's bounds, from the bounds of all flows.
 ghost use mathlib.Core.Path.{_≡_};
 ghost use mathlib.Core.Bool.{_&&_, true};
 ghost use Prim.Native.Nat.{_≤_, _<_};
@@ -9,6 +8,7 @@ ghost use Rattle.document.specs.Delay.{admits, verdictOf, boundsIf, boundsOf};
 ghost use Rattle.tables.specs.Answers.{AllBoundsOf, refusedBounds};
 ghost use Rattle.model.specs.Refusals.{good};
 ghost use Rattle.document.specs.Reader.{recordFault};
+ghost use Rattle.model.specs.Limits.{mostFlows};
 use model::Bounds;
 use model::Fault;
 use model::Flow;
@@ -26,7 +26,7 @@ fn both(a: bool, b: bool) -> bool
 
 // A test admits when every bound is at most its deadline.
 fn admits(s: FlowSet, bound: [u32; Flow::MOST]) -> bool
-    requires { ⌜ s .count ≤ 64 ⌝ }
+    requires { ⌜ s .count ≤ mostFlows ⌝ }
     ensures { λ r. ⌜ r ≡ admits (used s) (λ k. getD bound k 0) ⌝ }
 {
     let n = s.count as usize;

@@ -1,15 +1,14 @@
 -- What is read is written again as the same bytes, since each line is the line of its numbers; and so no accepted text is longer than
 -- its longest lines make it.
 use mathlib.Core.Path.{_≡_, refl, sym, ap, subst, _∙_}
-use mathlib.Core.Bool.{Bool, true, false, not, _&&_, _||_, cond, false≢true}
+use mathlib.Core.Bool.{Bool, true, false, _&&_, cond, false≢true}
 use mathlib.Core.List.{List, [], _∷_, _++_, map, append-nil, append-assoc}
-use Prim.Native.Nat.{ℕ, zero, suc, _+_, _-_, _*_, _<_, _≤_, min, zero-le}
-use native.Mathlib.Decide.{decLe}
+use Prim.Native.Nat.{ℕ, suc, _+_, _-_, _*_, _<_, _≤_, zero-le}
 use native.Mathlib.Numerals.{add-one}
 use native.Mathlib.Omega.{arith}
-use lib.Dec.{leb, ltb, eqb}
-use lib.ListN.{length, getD, take, drop, set, replicate, length-append, length-drop, length-set}
-use lib.Seq.{take-suc-set, take-all}
+use lib.Dec.{leb, eqb}
+use lib.ListN.{length, getD, take, set, length-append, length-set}
+use lib.Seq.{take-suc-set}
 use borrow.Author.Tests.{leb-true, eqb-true}
 use Rattle.model.specs.declared.kinds.Flow.{Flow}
 use Rattle.model.specs.declared.kinds.FlowSet.{FlowSet}
@@ -17,21 +16,19 @@ use Rattle.model.specs.declared.answers.Reading.{Reading}
 use Rattle.model.specs.declared.answers.Refusal.{Refusal}
 use Rattle.model.specs.declared.answers.Refusal.the-variants.{BadForm}
 use Rattle.model.specs.Limits.{mostFlows, mostNodes}
-use Rattle.model.specs.Refusals.{refusalNumber, good, noFault}
-use Rattle.model.specs.Sets.{noFlow, blankFlow, blankSet, flowAt, exact, used, SameSet}
-use Rattle.document.specs.Reader.{mapFault, flowFault, recordFlowFault, flowsFault, recordFault, pad, flowOf, withFlow, firstLineFault, flowLineFault, refusedReading, accepted, readFlows, setOf, readLines, readText, flowNumbers, flowLines, textOf}
+use Rattle.model.specs.Refusals.{good}
+use Rattle.model.specs.Sets.{exact, used}
+use Rattle.document.specs.Reader.{pad, flowOf, withFlow, firstLineFault, flowLineFault, readFlows, setOf, readLines, readText, flowNumbers, flowLines, textOf}
 use Rattle.document.specs.Text.{setWord, flowWord, onto, lines, wellFormed, numbersOf, decimal, lineOf}
-use Rattle.laws.specs.Accepted.{GoodFlow, good-flow, good-flows, or-else-good}
-use Rattle.laws.specs.Sums.{and-l, and-r, and-i}
-use Rattle.lines.specs.Places.{line, after}
-use Rattle.lines.specs.Fields.{lines-line, line-after}
+use Rattle.laws.specs.Sums.{and-l, and-r}
+use Rattle.lines.specs.Places.{line}
 use Rattle.decimals.specs.Decimals.{decimal-one}
 use Rattle.puts.specs.Stores.{fieldsOf, line-parts}
-use Rattle.reader.specs.Pads.{pad-at, pad-take}
-use Rattle.reader.specs.Judging.{read-good, read-bad, GoodLine, good-line, judgedFlow}
+use Rattle.reader.specs.Pads.{pad-take}
+use Rattle.reader.specs.Judging.{read-good, read-bad, good-line}
 use Rattle.reader.specs.First.{first-good, first-bad, first-formed}
 use Rattle.writer.specs.Numerals.{decimal-five}
-use Rattle.writer.specs.Lines.{inside, small, Line, line-written, line-back, line-small}
+use Rattle.writer.specs.Lines.{small, line-back, line-small}
 
 -- the lines put together again
 unfoldable joined : List (List ℕ) → List ℕ

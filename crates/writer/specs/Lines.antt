@@ -1,18 +1,17 @@
 -- A line and its word and numbers: each gives the other back.
-use mathlib.Core.Path.{_≡_, refl, sym, ap, subst, _∙_}
-use mathlib.Core.Bool.{Bool, true, false, not, _&&_, _||_, cond, false≢true}
-use mathlib.Core.List.{List, [], _∷_, _++_, append-nil, append-assoc}
-use Prim.Native.Nat.{ℕ, zero, suc, _+_, _-_, _*_, _<_, _≤_}
+use mathlib.Core.Path.{_≡_, refl, sym, ap, _∙_}
+use mathlib.Core.Bool.{Bool, true, false, not, _&&_, false≢true}
+use mathlib.Core.List.{List, [], _∷_, _++_, append-assoc}
+use Prim.Native.Nat.{ℕ, _+_, _-_}
 use native.Mathlib.Omega.{arith}
 use lib.Dec.{leb, ltb, eqb}
-use lib.ListN.{length, getD, length-append}
 use borrow.Author.Tests.{ne-eqb, eq-eqb, eqb-true, leb-true, not-true}
-use Rattle.document.specs.Text.{setWord, flowWord, same, onto, lines, ended, fields, firstOf, othersOf, isDigit, allDigits, plain, isNumber, allNumbers, valuesOf, valueOf, wellFormed, numbersOf, decimal, tabbed, decimals, lineOf}
+use Rattle.document.specs.Text.{same, lines, ended, fields, firstOf, othersOf, isDigit, allDigits, plain, isNumber, allNumbers, valuesOf, valueOf, wellFormed, numbersOf, decimal, tabbed, decimals, lineOf}
 use Rattle.laws.specs.Sums.{and-l, and-r, and-i}
 use Rattle.lines.specs.Places.{first, more, line, after}
-use Rattle.lines.specs.Fields.{Sep, is-tab, is-lf, within, sep, fields-parts, fields-within, first-within, more-within, ended-within, lines-line}
-use Rattle.puts.specs.Stores.{fieldsOf, tabbed-fields, line-parts}
-use Rattle.writer.specs.Numerals.{numeral, decimal-number, value-decimal, number-decimal, decimal-five}
+use Rattle.lines.specs.Fields.{Sep, is-tab, is-lf, within, sep, fields-parts, fields-within, ended-within, lines-line}
+use Rattle.puts.specs.Stores.{fieldsOf, line-parts}
+use Rattle.writer.specs.Numerals.{numeral, decimal-number, value-decimal, number-decimal}
 
 -- every byte is of a field
 unfoldable pub inside : List ℕ → Bool

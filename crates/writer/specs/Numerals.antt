@@ -1,17 +1,17 @@
 -- A number and its decimal digits: each gives the other back.
 use mathlib.Core.Path.{_≡_, refl, sym, ap, subst, _∙_}
-use mathlib.Core.Bool.{Bool, true, false, not, _&&_, false≢true}
+use mathlib.Core.Bool.{true, false, _&&_, false≢true}
 use mathlib.Core.List.{List, [], _∷_, _++_, append-nil, append-assoc}
 use Prim.Native.Nat.{ℕ, zero, suc, _+_, _-_, _*_, _/_, _%_, _<_, _≤_}
 use native.Mathlib.Decide.{decLe}
 use native.Mathlib.Omega.{arith}
 use lib.Dec.{leb, ltb, eqb}
-use lib.ListN.{length, length-append}
+use lib.ListN.{length}
 use borrow.Author.Tests.{ne-eqb, le-leb, lt-ltb, leb-true, ltb-true, eqb-false, not-true}
-use Rattle.document.specs.Text.{zeroDigit, isDigit, allDigits, plain, valueFrom, valueOf, isNumber, decimal}
-use Rattle.laws.specs.Sums.{and-l, and-r, and-i}
+use Rattle.document.specs.Text.{isDigit, allDigits, plain, valueFrom, valueOf, isNumber, decimal}
+use Rattle.laws.specs.Sums.{and-l, and-r}
 use Rattle.lines.specs.Digits.{value-grows, good-number}
-use Rattle.decimals.specs.Decimals.{tenDigits, top, decimal-one, decimal-more, decimal-size, digits-least}
+use Rattle.decimals.specs.Decimals.{tenDigits, top, decimal-one, decimal-more, decimal-size}
 
 -- one digit more at the end
 value-next : (f : List ℕ) (v b : ℕ) → valueFrom v (f ++ (b ∷ [])) ≡ valueFrom v f * 10 + (b - 48)

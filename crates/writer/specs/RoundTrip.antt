@@ -3,15 +3,15 @@
 use mathlib.Core.Path.{_≡_, refl}
 use mathlib.Core.Bool.{true}
 use mathlib.Core.List.{List, [], _∷_}
-use Prim.Native.Nat.{ℕ, _≤_, _<_}
+use Prim.Native.Nat.{ℕ, _≤_}
 use native.Mathlib.Omega.{arith}
 use lib.ListN.{length, replicate, getD-replicate}
 use Rattle.model.specs.declared.kinds.Flow.{Flow}
 use Rattle.model.specs.declared.kinds.FlowSet.{FlowSet}
-use Rattle.model.specs.Limits.{mostFlows}
+use Rattle.model.specs.Limits.{mostFlows, mostNodes}
 use Rattle.model.specs.Refusals.{good}
 use Rattle.model.specs.Sets.{noFlow, used, anyOf, SameSet}
-use Rattle.document.specs.Reader.{twice, flowFault, flowsFault, recordFault, flowNumbers, flowLines, readText, textOf}
+use Rattle.document.specs.Reader.{twice, flowFault, flowsFault, recordFault, flowLines, readText, textOf}
 use Rattle.document.specs.Text.{decimalIn, decimal, tabbed, decimals, lineOf}
 use Rattle.writer.specs.Again.{longestText, read-written, read-length}
 use Rattle.writer.specs.Lines.{small}
@@ -45,7 +45,7 @@ longFlow =
       deadline = record { 0 = 65535 };
       start = 65535;
       tries = 4;
-      nodes = 17;
+      nodes = mostNodes;
       route = 10000 ∷ 10001 ∷ 10002 ∷ 10003 ∷ 10004 ∷ 10005 ∷ 10006 ∷ 10007 ∷ 10008 ∷ 10009 ∷ 10010 ∷ 10011 ∷ 10012 ∷ 10013 ∷ 10014 ∷ 10015 ∷ 10016 ∷ [];
     }
 

@@ -1,30 +1,27 @@
 -- What is written of a set that passes the record check is read as the same set, and the entries that don't count come back 0.
 use mathlib.Core.Path.{_≡_, refl, sym, ap, subst, _∙_}
-use mathlib.Core.Bool.{Bool, true, false, _&&_, cond, false≢true}
+use mathlib.Core.Bool.{true}
 use mathlib.Core.List.{List, [], _∷_, _++_, map, append-nil, append-assoc}
-use Prim.Native.Nat.{ℕ, zero, suc, _+_, _-_, _<_, _≤_, min, zero-le}
-use native.Mathlib.Decide.{decLe}
-use native.Mathlib.Nat.{add-assoc, add-zero}
-use native.Mathlib.Numerals.{add-one}
+use Prim.Native.Nat.{ℕ, zero, suc, _+_, _-_, _<_, _≤_, zero-le}
+use native.Mathlib.Nat.{add-zero}
 use native.Mathlib.Omega.{arith}
-use lib.Dec.{leb, eqb}
-use lib.ListN.{length, getD, take, drop, set, replicate, length-take, length-map}
-use lib.Seq.{length-take-le, getD-set-same, getD-set-other}
-use borrow.Author.Tests.{le-leb, leb-true}
+use lib.Dec.{leb}
+use lib.ListN.{length, getD, take, set}
+use lib.Seq.{length-take-le}
+use borrow.Author.Tests.{le-leb}
 use Rattle.model.specs.declared.kinds.ChannelMap.{ChannelMap}
 use Rattle.model.specs.declared.kinds.Flow.{Flow}
 use Rattle.model.specs.declared.kinds.FlowSet.{FlowSet}
 use Rattle.model.specs.declared.answers.Reading.{Reading}
-use Rattle.model.specs.declared.answers.Refusal.{Refusal}
 use Rattle.model.specs.Limits.{mostFlows, mostNodes}
 use Rattle.model.specs.Refusals.{good, faultAt}
-use Rattle.model.specs.Sets.{noFlow, blankFlow, flowAt, exact, used, SameSet}
-use Rattle.document.specs.Reader.{mapFault, flowFault, recordFlowFault, flowsFault, recordFault, pad, flowOf, withFlow, firstLineFault, flowLineFault, accepted, readFlows, setOf, readLines, readText, flowNumbers, flowLines, textOf}
-use Rattle.document.specs.Text.{setWord, flowWord, lines, wellFormed, numbersOf, lineOf}
-use Rattle.laws.specs.Accepted.{Accepted, good-flow, good-flows, or-else-good, accepted as accepted-set}
+use Rattle.model.specs.Sets.{noFlow, flowAt, exact, used, SameSet}
+use Rattle.document.specs.Reader.{mapFault, recordFlowFault, flowsFault, recordFault, pad, flowOf, withFlow, firstLineFault, flowLineFault, accepted, readFlows, setOf, readLines, readText, flowNumbers, flowLines, textOf}
+use Rattle.document.specs.Text.{setWord, flowWord, lines, lineOf}
+use Rattle.laws.specs.Accepted.{good-flow, good-flows, or-else-good, accepted as accepted-set}
 use Rattle.laws.specs.Sums.{and-l, and-r}
 use Rattle.laws.specs.Used.{used-flow, used-count, used-map}
-use Rattle.reader.specs.Pads.{pad-at, pad-take}
+use Rattle.reader.specs.Pads.{pad-take}
 use Rattle.reader.specs.Judging.{read-good}
 use Rattle.reader.specs.First.{first-good}
 use Rattle.set_lines.specs.Lines.{used-length}

@@ -1,6 +1,5 @@
-// A set's text in a buffer that has the room for it, and nothing in one that has not.
-// The writer: the record check first, then the buffer's room, then the text and nothing else.
-// What holds of a set's text read and written. It is mathematics alone: the statements are specs/RoundTrip.antt, and the laws stand beside it.
+// The writer: the record check first, then the buffer's room, then the text and nothing else. What holds of a set's text that is read and
+// written stands in specs/RoundTrip.antt.
 ghost use mathlib.Core.Path.{_≡_};
 ghost use Prim.Native.Nat.{_-_, min};
 ghost use lib.ListN.{length};

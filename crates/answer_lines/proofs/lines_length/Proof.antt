@@ -2,6 +2,7 @@ use native.Mathlib.Nat.{le-trans, le-of-eq}
 use native.Mathlib.Omega.{arith}
 use Rattle.puts.specs.Lengths.{put-length, sends-take-le}
 use borrow.Author.Needs.{needs}
+use Rattle.model.specs.Limits.{mostChannels}
 use Rattle.answer_lines.proofs.lines_length.Statement.{statement}
 use Rattle.answer_lines.proofs.lines_length.Tie as tie
 use Rattle.answer_lines.proofs.lines_length.Reads as reads
@@ -17,7 +18,7 @@ put-sends-requires c κs = search needs
 returns : tie.Need-returns
 returns c =
     let s = c .before .before .before in
-    put-length (c .before .put-sends .ensures) (le-trans (sends-take-le (s .args .n) 16 (s .args .sent) (le-of-eq (s .good .0 .1 .0 .1))) (omega arith))
+    put-length (c .before .put-sends .ensures) (le-trans (sends-take-le (s .args .n) mostChannels (s .args .sent) (le-of-eq (s .good .0 .1 .0 .1))) (omega arith))
 
 pub lines-length-spec : {M : Type 1} → statement M
 lines-length-spec = tie.close (tie.spec slice-aggregate-put-sends put-sends-requires returns)

@@ -1,10 +1,8 @@
 -- `clashes` passes the placed links that share no node. Assumes nothing.
 use Rattle.machinery.specs.Choice.{clashEnds}
 use Rattle.laws.specs.Sums.{any-zero, any-next, any-in}
-use native.Mathlib.Omega.{arith}
-use Prim.Native.Nat.{ℕ, _-_, _≤_, _<_}
-use mathlib.Core.List.{[], _∷_}
-use mathlib.Core.Bool.{true, false}
+use Prim.Native.Nat.{_-_, _≤_}
+use mathlib.Core.Bool.{false}
 use mathlib.Core.Path.{_≡_, sym, _∙_}
 use borrow.Author.Needs.{needs}
 use Rattle.clash.proofs.clashes.Statement.{statement}

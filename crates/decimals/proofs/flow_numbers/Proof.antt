@@ -1,9 +1,9 @@
 -- `flow_numbers` puts the four numbers first and copies the nodes behind them (`Copied`). Assumes nothing.
 use mathlib.Core.Path.{_∙_}
 use Prim.Native.Nat.{_-_}
-use native.Mathlib.Omega.{arith}
 use Rattle.decimals.specs.Copied.{Copied, copied-start, copied-more, copied-done}
 use borrow.Author.Needs.{needs}
+use Rattle.model.specs.Limits.{mostNodes}
 use Rattle.decimals.proofs.flow_numbers.Statement.{statement}
 use Rattle.decimals.proofs.flow_numbers.Tie as tie
 
@@ -11,7 +11,7 @@ abbrev Inv-loop : tie.InvT-loop
 Inv-loop route numbers₀ i₀ numbers i = Copied numbers₀ route numbers i
 
 abbrev μ-loop : tie.MeasureT-loop
-μ-loop route numbers₀ i₀ numbers i = 17 - i
+μ-loop route numbers₀ i₀ numbers i = mostNodes - i
 
 wide-requires : tie.Need-wide-requires Inv-loop μ-loop
 wide-requires c κs = search needs

@@ -1,6 +1,6 @@
 -- `put_digits` stores the last digit of what is left, each time one place before: what is left, stored from `at` on, gives the whole.
 -- Beyond the end nothing is stored. The measure is what is left of the number. Assumes nothing.
-use mathlib.Core.Path.{_≡_, refl, sym}
+use mathlib.Core.Path.{_≡_, sym}
 use Prim.Native.Nat.{_≤_}
 use native.Mathlib.Omega.{arith}
 use lib.ListN.{length}

@@ -1,5 +1,5 @@
 -- `judge`: the tables, then the tests by them. Assumes nothing beyond its `requires`.
-use mathlib.Core.Path.{_≡_, refl}
+use mathlib.Core.Path.{refl}
 use Rattle.laws.specs.Accepted.{accepted}
 use borrow.Author.Needs.{needs}
 use Rattle.delay.proofs.judge.Statement.{statement}

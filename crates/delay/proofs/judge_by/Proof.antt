@@ -1,14 +1,14 @@
 -- `judge_by`: the values with nothing gone are the basic bounds, and those at the last list the tightened ones. Assumes nothing beyond its `requires`.
-use mathlib.Core.Path.{_≡_, refl, ap, _∙_}
-use Prim.Native.Nat.{ℕ, _≤_, _<_}
+use Prim.Native.Nat.{_≤_, _<_}
 use native.Mathlib.Omega.{arith}
 use Rattle.model.specs.Sets.{used}
 use Rattle.tables.specs.Tables.{Tables, tablesOf}
-use Rattle.tables.specs.Sums.{tableValue, Fits}
+use Rattle.tables.specs.Sums.{Fits}
 use Rattle.tables.proofs.Carry.{fits-carried}
 use Rattle.tables.proofs.Checked.{ones-pos}
 use Rattle.delay.proofs.Results.{basic-carried, tight-carried, values-ext}
 use borrow.Author.Needs.{needs}
+use Rattle.model.specs.Limits.{mostFlows}
 use Rattle.delay.proofs.judge_by.Statement.{statement}
 use Rattle.delay.proofs.judge_by.Tie as tie
 
@@ -21,7 +21,7 @@ tables c =
     tablesOf (c .args .conflict .now) (c .args .remainder .now) (c .args .work .now) (c .args .deadline .now) (c .args .whole-conflict .now) (c .args .whole-work .now)
 
 -- what the values ask for
-asked : (c : tie.After-ways) → ((start c .args .s .count ≤ 64) × (0 < c .ways .result)) × Fits (tables (start c)) (start c .args .s .count)
+asked : (c : tie.After-ways) → ((start c .args .s .count ≤ mostFlows) × (0 < c .ways .result)) × Fits (tables (start c)) (start c .args .s .count)
 unfolding used
 asked c =
     let b = start c in

@@ -1,6 +1,6 @@
 -- `rows`: the first k rows and their sums are done. Assumes nothing beyond its `requires`.
 use mathlib.Core.Path.{_≡_}
-use Prim.Native.Nat.{ℕ, _-_, _≤_, _<_}
+use Prim.Native.Nat.{_-_, _≤_}
 use native.Mathlib.Omega.{arith}
 use Rattle.tables.specs.Rows.{Short, RowsDone}
 use Rattle.delay.proofs.Terms.{short-zeros, done-next}

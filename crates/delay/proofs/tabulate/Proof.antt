@@ -1,5 +1,4 @@
 -- `tabulate`: the flows' numbers, S, and the rows made of them. Assumes nothing beyond its `requires`.
-use mathlib.Core.Path.{_≡_}
 use Rattle.model.specs.Sets.{used}
 use Rattle.tables.proofs.Checked.{count-at}
 use Rattle.delay.proofs.Terms.{numbers-lent, conflicts-lent, done-lent, small-rows, rows-pos, tabled}

@@ -10,7 +10,7 @@ first-release-requires-2 : tie.Need-first-release-requires-2
 first-release-requires-2 c κs = tt
 
 returns : tie.Need-returns
-returns c = ap (λ n. record { 0 = n }) (c .before .first-release .ensures ∙ sym (c .first-release2 .ensures))
+returns c = ap (λ n. record { 0 = n }) (c .before .first-release .ensures .0 ∙ sym (c .first-release2 .ensures .0))
 
 pub flow-first-release-spec : {M : Type 1} → statement M
 flow-first-release-spec =

@@ -1,6 +1,6 @@
 -- `add_up`: both sums hold the terms of the places so far, at most 64 each. Assumes nothing beyond its `requires`.
 use mathlib.Core.Path.{_≡_, sym, ap, ap₂, _∙_}
-use Prim.Native.Nat.{ℕ, _+_, _-_, _*_, _≤_, _<_, min}
+use Prim.Native.Nat.{ℕ, _+_, _-_, _*_, _≤_, min}
 use native.Mathlib.Omega.{arith}
 use lib.ListN.{getD}
 use Rattle.model.specs.Sums.{sumTo}
@@ -8,19 +8,20 @@ use Rattle.laws.specs.Sums.{sum-next, sum-zero}
 use Rattle.tables.specs.Grid.{pairAt}
 use Rattle.tables.specs.Sums.{cutAt, conflictRow, workRow}
 use borrow.Author.Needs.{needs}
+use Rattle.model.specs.Limits.{mostFlows}
 use Rattle.equation.proofs.add_up.Statement.{statement}
 use Rattle.equation.proofs.add_up.Tie as tie
 
 abbrev Inv-loop : tie.InvT-loop
 Inv-loop k conflict remainder work gone row x₀ w₀ l₀ x w l =
-    (l ≤ 64)
+    (l ≤ mostFlows)
     × (x ≤ 64 * l)
     × (w ≤ 64 * l)
     × (x ≡ sumTo (λ j. min (pairAt conflict k j) (cutAt remainder gone k j)) l)
     × (w ≡ sumTo (λ j. min (getD work j 0) (cutAt remainder gone k j)) l)
 
 abbrev μ-loop : tie.MeasureT-loop
-μ-loop k conflict remainder work gone row x₀ w₀ l₀ x w l = 64 - l
+μ-loop k conflict remainder work gone row x₀ w₀ l₀ x w l = mostFlows - l
 
 mul-row : tie.Need-mul-row Inv-loop μ-loop
 mul-row c = search needs
@@ -115,7 +116,7 @@ returns : tie.Need-returns Inv-loop μ-loop
 unfolding conflictRow workRow
 returns c =
     let w = c .before .loop in
-    let e : w .l ≡ 64 = omega arith in
+    let e : w .l ≡ mostFlows = omega arith in
     ((rw e at (w .inv .3), omega arith), (rw e at (w .inv .4), omega arith))
 
 pub add-up-spec : {M : Type 1} → statement M

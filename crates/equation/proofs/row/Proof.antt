@@ -1,7 +1,5 @@
 -- `row`: the quotients and remainders of every period, those of the flow itself then made 0. Assumes nothing beyond its `requires`.
-use mathlib.Core.Path.{_≡_, _∙_}
-use Prim.Native.Nat.{ℕ, _≤_, _<_}
-use native.Mathlib.Omega.{arith}
+use mathlib.Core.Path.{_∙_}
 use lib.ListN.{getD}
 use Rattle.tables.specs.Grid.{pairAt}
 use Rattle.equation.proofs.Own.{own-short, own-row, own-whole}

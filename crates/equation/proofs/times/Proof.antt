@@ -2,7 +2,6 @@
 use mathlib.Core.Path.{refl}
 use native.Mathlib.Nat.{mul-le-mul, lt-of-le-of-lt}
 use lib.Dec.{lit<}
-use borrow.Author.Needs.{needs}
 use Rattle.equation.proofs.times.Statement.{statement}
 use Rattle.equation.proofs.times.Tie as tie
 

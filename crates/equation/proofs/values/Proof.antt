@@ -1,6 +1,6 @@
 -- `values`: the first j entries are the equation's values. Assumes nothing beyond its `requires`.
 use mathlib.Core.Path.{_≡_}
-use Prim.Native.Nat.{ℕ, _-_, _≤_, _<_}
+use Prim.Native.Nat.{_-_, _≤_}
 use native.Mathlib.Omega.{arith}
 use Rattle.tables.specs.Tables.{tablesOf}
 use Rattle.tables.specs.Sums.{tableValue}

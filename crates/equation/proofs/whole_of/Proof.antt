@@ -1,25 +1,26 @@
 -- `whole_of`: both sums hold the terms of the flows so far, at most 65,535 · 64 each. Assumes nothing beyond its `requires`.
 use mathlib.Core.Path.{_≡_, sym, ap, ap₂, _∙_}
-use Prim.Native.Nat.{ℕ, _+_, _-_, _*_, _≤_, _<_}
+use Prim.Native.Nat.{ℕ, _+_, _-_, _*_, _≤_}
 use native.Mathlib.Omega.{arith}
 use lib.ListN.{getD}
 use Rattle.model.specs.Sums.{sumTo}
 use Rattle.laws.specs.Sums.{sum-next, sum-zero}
 use Rattle.tables.specs.Grid.{pairAt}
 use borrow.Author.Needs.{needs}
+use Rattle.model.specs.Limits.{mostFlows}
 use Rattle.equation.proofs.whole_of.Statement.{statement}
 use Rattle.equation.proofs.whole_of.Tie as tie
 
 abbrev Inv-loop : tie.InvT-loop
 Inv-loop k conflict work q x₀ w₀ l₀ x w l =
-    (l ≤ 64)
+    (l ≤ mostFlows)
     × (x ≤ 4194240 * l)
     × (w ≤ 4194240 * l)
     × (x ≡ sumTo (λ j. getD q j 0 * pairAt conflict k j) l)
     × (w ≡ sumTo (λ j. getD q j 0 * getD work j 0) l)
 
 abbrev μ-loop : tie.MeasureT-loop
-μ-loop k conflict work q x₀ w₀ l₀ x w l = 64 - l
+μ-loop k conflict work q x₀ w₀ l₀ x w l = mostFlows - l
 
 loop-holds : tie.Need-loop-holds Inv-loop μ-loop
 loop-holds c = (
@@ -95,7 +96,7 @@ loop-again c =
 returns : tie.Need-returns Inv-loop μ-loop
 returns c =
     let w = c .before .loop in
-    let e : w .l ≡ 64 = omega arith in
+    let e : w .l ≡ mostFlows = omega arith in
     (rw e at (w .inv .3), (rw e at (w .inv .4), omega arith))
 
 pub whole-of-spec : {M : Type 1} → statement M

@@ -1,19 +1,20 @@
 -- `add_link`: the flows so far have one more where one of the two rows has them. Assumes nothing beyond its `requires`.
-use mathlib.Core.Path.{_≡_, sym, ap, ap₂, _∙_}
-use Prim.Native.Nat.{ℕ, _+_, _*_, _-_, _≤_, _<_, max}
+use mathlib.Core.Path.{_≡_, ap}
+use Prim.Native.Nat.{ℕ, _+_, _*_, _-_, _≤_}
 use native.Mathlib.Omega.{arith}
 use lib.ListN.{getD}
-use Rattle.index.specs.Met.{either, Added}
+use Rattle.index.specs.Met.{Added}
 use Rattle.index.proofs.Counts.{added-start, added-next}
 use borrow.Author.Needs.{needs}
+use Rattle.model.specs.Limits.{mostFlows}
 use Rattle.index.proofs.add_link.Statement.{statement}
 use Rattle.index.proofs.add_link.Tie as tie
 
 abbrev Inv-loop : tie.InvT-loop
-Inv-loop a b users touched₀ first second k₀ touched k = (k ≤ 64) × Added users a b k touched₀ touched
+Inv-loop a b users touched₀ first second k₀ touched k = (k ≤ mostFlows) × Added users a b k touched₀ touched
 
 abbrev μ-loop : tie.MeasureT-loop
-μ-loop a b users touched₀ first second k₀ touched k = 64 - k
+μ-loop a b users touched₀ first second k₀ touched k = mostFlows - k
 
 mul-first : tie.Need-mul-first Inv-loop μ-loop
 mul-first c = search needs
@@ -48,8 +49,8 @@ add-touched c =
     let b = c .before .before .before .before .before .before in
     let e = w .inv .1 .kept (w .k) (omega arith) in
     let x = b .pre .1 .1 (w .k) in
-    let y = b .pre .1 .0 (b .args .a * 64 + w .k) in
-    let z = b .pre .1 .0 (b .args .b * 64 + w .k) in
+    let y = b .pre .1 .0 (b .args .a * mostFlows + w .k) in
+    let z = b .pre .1 .0 (b .args .b * mostFlows + w .k) in
     omega (arith, c .larger .ensures)
 
 element-write-touched : tie.Need-element-write-touched Inv-loop μ-loop
@@ -71,7 +72,7 @@ loop-again c =
 returns : tie.Need-returns Inv-loop μ-loop
 returns c =
     let w = c .before .loop in
-    let e : w .k ≡ 64 = omega arith in
+    let e : w .k ≡ mostFlows = omega arith in
     rw e at (w .inv .1)
 
 pub add-link-spec : {M : Type 1} → statement M

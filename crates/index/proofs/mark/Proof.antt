@@ -7,11 +7,12 @@ use Rattle.tables.proofs.Checked.{good-at, count-at}
 use Rattle.node_rows.specs.Index.{UsersTo}
 use Rattle.node_rows.proofs.Places.{placed-all, users-self, users-none, users-flow}
 use borrow.Author.Needs.{needs}
+use Rattle.model.specs.Limits.{mostFlows}
 use Rattle.index.proofs.mark.Statement.{statement}
 use Rattle.index.proofs.mark.Tie as tie
 
 abbrev Inv-loop : tie.InvT-loop
-Inv-loop rows users₀ s n k₀ users k = (k ≤ n) × (n ≤ 64) × UsersTo s rows k users
+Inv-loop rows users₀ s n k₀ users k = (k ≤ n) × (n ≤ mostFlows) × UsersTo s rows k users
 
 abbrev μ-loop : tie.MeasureT-loop
 μ-loop rows users₀ s n k₀ users k = n - k
@@ -35,7 +36,7 @@ mark-route-requires c κs =
     let s = b .args .t1 in
     let rows = b .args .rows .now in
     let h = c .before .before .loop-test .taken in
-    let k : w .k < 64 = omega arith in (
+    let k : w .k < mostFlows = omega arith in (
       (good-at s (b .pre .0) (w .k) h .nodes-le, k, placed-all s (s .count) rows (count-at s (b .pre .0)) (b .pre .1), b .pre .1 .flows (w .k) h),
       (users-self s rows (w .k) (w .users) k (w .inv .2), users-none s rows (w .k) (w .users) k (w .inv .2) (flowAt s (w .k) .route)),
     )

@@ -1,16 +1,17 @@
 -- `mark_route`: the column says of each node passed that it is on the route, and of no other so far. Assumes nothing beyond its `requires`.
 use mathlib.Core.Path.{_≡_, refl, sym}
-use Prim.Native.Nat.{ℕ, _+_, _-_, _*_, _≤_, _<_}
+use Prim.Native.Nat.{_-_, _≤_}
 use native.Mathlib.Omega.{arith}
 use lib.ListN.{length, getD}
-use Rattle.node_rows.specs.Index.{Placed, Rowed, Column, OtherColumns}
+use Rattle.node_rows.specs.Index.{Column, OtherColumns}
 use Rattle.node_rows.proofs.Places.{place-lt, others-next, column-next, column-at}
 use borrow.Author.Needs.{needs}
+use Rattle.model.specs.Limits.{mostNodes}
 use Rattle.index.proofs.mark_route.Statement.{statement}
 use Rattle.index.proofs.mark_route.Tie as tie
 
 abbrev Inv-loop : tie.InvT-loop
-Inv-loop k rows users₀ f n j₀ users j = (j ≤ n) × (n ≤ 17) × (length (f .route) ≡ 17) × OtherColumns k users₀ users × Column rows users k (f .route) j
+Inv-loop k rows users₀ f n j₀ users j = (j ≤ n) × (n ≤ mostNodes) × (length (f .route) ≡ mostNodes) × OtherColumns k users₀ users × Column rows users k (f .route) j
 
 abbrev μ-loop : tie.MeasureT-loop
 μ-loop k rows users₀ f n j₀ users j = n - j

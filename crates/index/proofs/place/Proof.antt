@@ -6,11 +6,12 @@ use Rattle.tables.proofs.Checked.{good-at, count-at}
 use Rattle.node_rows.specs.Index.{PlacedTo}
 use Rattle.node_rows.proofs.Places.{placed-flow}
 use borrow.Author.Needs.{needs}
+use Rattle.model.specs.Limits.{mostFlows}
 use Rattle.index.proofs.place.Statement.{statement}
 use Rattle.index.proofs.place.Tie as tie
 
 abbrev Inv-loop : tie.InvT-loop
-Inv-loop rows₀ s n k₀ rows k = (k ≤ n) × (n ≤ 64) × PlacedTo s k rows
+Inv-loop rows₀ s n k₀ rows k = (k ≤ n) × (n ≤ mostFlows) × PlacedTo s k rows
 
 abbrev μ-loop : tie.MeasureT-loop
 μ-loop rows₀ s n k₀ rows k = n - k

@@ -1,18 +1,19 @@
 -- `touch`: the links so far are counted. Assumes nothing beyond its `requires`.
 use mathlib.Core.Path.{_≡_}
-use Prim.Native.Nat.{ℕ, _+_, _-_, _≤_, _<_}
+use Prim.Native.Nat.{_-_, _≤_}
 use native.Mathlib.Nat.{le-trans, le-of-eq}
 use native.Mathlib.Omega.{arith}
-use lib.ListN.{length, getD}
+use lib.ListN.{length}
 use Rattle.model.specs.Sets.{links}
-use Rattle.index.specs.Met.{Added, Met}
+use Rattle.index.specs.Met.{Met}
 use Rattle.index.proofs.Counts.{met-next, met-small}
 use borrow.Author.Needs.{needs}
+use Rattle.model.specs.Limits.{mostLinks, mostNodes}
 use Rattle.links.proofs.touch.Statement.{statement}
 use Rattle.links.proofs.touch.Tie as tie
 
 abbrev Inv-loop : tie.InvT-loop
-Inv-loop rows users touched₀ l n i₀ touched i = (i ≤ n) × (n ≡ links l) × (length (l .route) ≡ 17) × Met rows users (l .route) i touched
+Inv-loop rows users touched₀ l n i₀ touched i = (i ≤ n) × (n ≡ links l) × (length (l .route) ≡ mostNodes) × Met rows users (l .route) i touched
 
 abbrev μ-loop : tie.MeasureT-loop
 μ-loop rows users touched₀ l n i₀ touched i = n - i
@@ -54,7 +55,7 @@ add-link-requires c κs =
     let o = b .pre .0 .2 in
     let x = le-trans (le-of-eq (c .before .before .before .row-of .ensures .0)) (o .below _) in
     let y = le-trans (le-of-eq (c .before .row-of2 .ensures .0)) (o .below _) in
-    ((x, y, w .inv .3 .whole), (b .pre .0 .3, met-small _ _ _ (w .i) 16 _ (omega arith) (w .inv .3)))
+    ((x, y, w .inv .3 .whole), (b .pre .0 .3, met-small _ _ _ (w .i) mostLinks _ (omega arith) (w .inv .3)))
 
 add-i : tie.Need-add-i Inv-loop μ-loop
 add-i c = search needs

@@ -7,7 +7,7 @@ use Rattle.model.specs.declared.answers.Ran.{Ran}
 use Rattle.model.specs.declared.answers.Fault.{Fault}
 use Rattle.model.specs.declared.kinds.State.{State}
 use borrow.Author.Tests.{eq-eqb, ne-eqb}
-use mathlib.Core.Bool.{true, false}
+use mathlib.Core.Bool.{false}
 use Prim.Native.Nat.{_≤_}
 use Rattle.machine.proofs.Kept.{never-drops}
 use mathlib.Core.Path.{_≡_, refl, sym, ap, ap₂, _∙_}

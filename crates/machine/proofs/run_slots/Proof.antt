@@ -1,7 +1,6 @@
 -- `run_slots` begins a run and passes its slots. Assumes nothing.
 use Rattle.slot_count.specs.Underway.{Underway, underway-first}
 use Rattle.machinery.specs.Dues.{accepted-count}
-use Rattle.machinery.specs.Slots.{look-needs}
 use Rattle.laws.specs.Used.{used-map}
 use Rattle.model.specs.declared.kinds.ChannelMap.{ChannelMap}
 use lib.Count.{ones, ones-le}
@@ -9,6 +8,7 @@ use lib.ListN.{replicate}
 use Prim.Native.Nat.{_≤_}
 use mathlib.Core.Path.{refl, sym, ap, _∙_}
 use borrow.Author.Needs.{needs}
+use Rattle.model.specs.Limits.{mostChannels, mostFlows}
 use Rattle.machine.proofs.run_slots.Statement.{statement}
 use Rattle.machine.proofs.run_slots.Tie as tie
 
@@ -24,15 +24,15 @@ cast-ways c = search needs
 dues-requires : tie.Need-dues-requires
 dues-requires c κs =
     let p = c .before .before .before .before .pre .0 in
-    ((accepted-count _ (p .good-set), search needs, refl), look-needs _ _ _ _ _ p)
+    ((accepted-count _ (p .good-set), search needs, refl), λ k h. (p .small-start k, p .small-deadline k))
 
 -- the run before its first slot
-begun : (c : tie.After-dues) → Underway (c .before .before .before .before .before .args .s) (c .before .before .before .before .before .args .fault) (c .before .before .before .before .before .args .s .count) (c .before .before .ways .result) 0 0 0 (c .before .before .before .before .before .args .start .now) (c .before .before .before .before .before .args .period .now) (c .before .before .before .before .before .args .deadline .now) (c .before .before .before .before .before .args .work .now) (c .before .before .before .before .before .args .tries .now) (c .before .before .before .before .before .args .routes .now) (c .dues .last .1 .1 .1 .1 .1 .0) (c .before .before .before .before .before .args .start .now) (replicate 64 0) (replicate 64 0) 0 0
+begun : (c : tie.After-dues) → Underway (c .before .before .before .before .before .args .s) (c .before .before .before .before .before .args .fault) (c .before .before .before .before .before .args .s .count) (c .before .before .ways .result) 0 0 0 (c .before .before .before .before .before .args .start .now) (c .before .before .before .before .before .args .period .now) (c .before .before .before .before .before .args .deadline .now) (c .before .before .before .before .before .args .work .now) (c .before .before .before .before .before .args .tries .now) (c .before .before .before .before .before .args .routes .now) (c .dues .last .1 .1 .1 .1 .1 .0) (c .before .before .before .before .before .args .start .now) (replicate mostFlows 0) (replicate mostFlows 0) 0 0
 begun c =
     let a = c .before .before .before .before .before .args in
     let p = c .before .before .before .before .before .pre in
     let w = c .before .before .ways .ensures in
-    let l : ones (a .s .map .0) ≤ 16 = ones-le 16 (a .s .map .0) (search needs) in
+    let l : ones (a .s .map .0) ≤ mostChannels = ones-le 16 (a .s .map .0) (search needs) in
     underway-first (a .s) (a .fault) _ _ _ _ _ _ _ _ _ refl (w ∙ ap (λ (m : ChannelMap). ones (m .0)) (sym (used-map (a .s)))) (rw w l) (p .0) (p .1) (p .2) (p .4) (c .dues .ensures)
 
 pass-slots-requires : tie.Need-pass-slots-requires

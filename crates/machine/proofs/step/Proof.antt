@@ -7,7 +7,7 @@ use Rattle.model.specs.Refusals.{good, refusalNumber}
 use Rattle.model.specs.declared.answers.Fault.{Fault}
 use borrow.Author.Tests.{eq-eqb, ne-eqb}
 use mathlib.Core.List.{[]}
-use mathlib.Core.Bool.{true, false}
+use mathlib.Core.Bool.{false}
 use mathlib.Core.Path.{_≡_, sym, ap, _∙_}
 use borrow.Author.Needs.{needs}
 use Rattle.machine.proofs.step.Statement.{statement}

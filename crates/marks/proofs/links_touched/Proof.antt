@@ -3,9 +3,9 @@ use mathlib.Core.Path.{_≡_, sym, ap, ap₂, _∙_}
 use Prim.Native.Nat.{ℕ, _+_, _-_, _≤_}
 use native.Mathlib.Omega.{arith}
 use lib.ListN.{take}
-use Rattle.model.specs.Sums.{bit, sumTo}
+use Rattle.model.specs.Sums.{bit}
 use Rattle.laws.specs.Sums.{sum-next, sum-zero}
-use Rattle.marks.specs.Marks.{endOn, endsOn}
+use Rattle.marks.specs.Marks.{endsOn}
 use borrow.Author.Needs.{needs}
 use Rattle.marks.proofs.links_touched.Statement.{statement}
 use Rattle.marks.proofs.links_touched.Tie as tie

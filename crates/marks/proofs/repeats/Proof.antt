@@ -1,7 +1,7 @@
 -- `repeats`: no node from a place on stands twice, and each has its mark. Assumes nothing.
 use mathlib.Core.Path.{_≡_, refl, sym, _∙_}
-use mathlib.Core.Bool.{true, false}
-use Prim.Native.Nat.{ℕ, _+_, _-_, _≤_}
+use mathlib.Core.Bool.{false}
+use Prim.Native.Nat.{_+_, _-_, _≤_}
 use native.Mathlib.Omega.{arith}
 use borrow.Author.Needs.{needs}
 use lib.ListN.{take, drop, length}
@@ -9,6 +9,7 @@ use Rattle.document.specs.Reader.{twice}
 use Rattle.marks.specs.Seen.{SeenFrom}
 use Rattle.marks.proofs.Nodes.{twice-here, twice-on, twice-end, twice-whole}
 use Rattle.marks.proofs.Marks.{seen-none, seen-next}
+use Rattle.model.specs.Limits.{mostNodes}
 use Rattle.marks.proofs.repeats.Statement.{statement}
 use Rattle.marks.proofs.repeats.Tie as tie
 use Rattle.marks.proofs.repeats.Reads as reads
@@ -16,7 +17,7 @@ use Rattle.marks.proofs.repeats.Lts as lts
 use Rattle.marks.proofs.stands_later.Reads as stands-later-reads
 
 abbrev Inv-loop : tie.InvT-loop
-Inv-loop n route seen₀ i₀ seen i = (length route ≡ 17) × (i ≤ n) × (twice (drop i (take n route)) ≡ false) × SeenFrom seen route i n
+Inv-loop n route seen₀ i₀ seen i = (length route ≡ mostNodes) × (i ≤ n) × (twice (drop i (take n route)) ≡ false) × SeenFrom seen route i n
 
 abbrev μ-loop : tie.MeasureT-loop
 μ-loop n route seen₀ i₀ seen i = i
@@ -24,8 +25,8 @@ abbrev μ-loop : tie.MeasureT-loop
 loop-holds : tie.Need-loop-holds Inv-loop μ-loop
 loop-holds c =
     let a = c .args in
-    let e : length (a .t1) ≡ 17 = search needs in
-    let h : a .n ≤ 17 = search needs in
+    let e : length (a .t1) ≡ mostNodes = search needs in
+    let h : a .n ≤ mostNodes = search needs in
     (e, omega arith, twice-end (a .t1) (a .n) (omega arith) (a .n) (omega arith), seen-none _ (a .t1) (a .n) refl (omega arith))
 
 sub-at : tie.Need-sub-at Inv-loop μ-loop

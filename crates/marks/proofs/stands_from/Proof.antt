@@ -1,18 +1,19 @@
 -- `stands_from` finds the node or passes it: what is left to search gives the same answer at each place. Assumes nothing.
 use mathlib.Core.Path.{_≡_, refl, sym, _∙_}
-use Prim.Native.Nat.{_-_, _≤_}
+use Prim.Native.Nat.{_-_}
 use native.Mathlib.Omega.{arith}
 use borrow.Author.Needs.{needs}
 use lib.ListN.{take, drop, length}
 use Rattle.model.specs.Sets.{memb}
 use Rattle.marks.proofs.Nodes.{memb-here, memb-on, memb-end}
+use Rattle.model.specs.Limits.{mostNodes}
 use Rattle.marks.proofs.stands_from.Statement.{statement}
 use Rattle.marks.proofs.stands_from.Tie as tie
 use Rattle.marks.proofs.stands_from.Reads as reads
 use Rattle.marks.proofs.stands_from.Lts as lts
 
 abbrev Inv-loop : tie.InvT-loop
-Inv-loop node from n route j₀ j = (length route ≡ 17) × (memb node (drop from (take n route)) ≡ memb node (drop j (take n route)))
+Inv-loop node from n route j₀ j = (length route ≡ mostNodes) × (memb node (drop from (take n route)) ≡ memb node (drop j (take n route)))
 
 abbrev μ-loop : tie.MeasureT-loop
 μ-loop node from n route j₀ j = n - j

@@ -1,6 +1,6 @@
 -- `by_index`: the first l columns hold S. Assumes nothing beyond its `requires`.
 use mathlib.Core.Path.{_≡_, refl}
-use Prim.Native.Nat.{ℕ, _-_, _*_, _≤_, _<_}
+use Prim.Native.Nat.{_-_, _≤_}
 use native.Mathlib.Omega.{arith}
 use Rattle.model.specs.Sets.{flowAt, used}
 use Rattle.tables.specs.Grid.{conflictOf}
@@ -9,11 +9,12 @@ use Rattle.node_rows.proofs.Places.{placed-all}
 use Rattle.meetings.specs.Columns.{ColumnsTo}
 use Rattle.meetings.proofs.Links.{columns-start, columns-next, columns-rows, column-ext, work-met}
 use borrow.Author.Needs.{needs}
+use Rattle.model.specs.Limits.{mostFlows, mostNodes}
 use Rattle.meetings.proofs.by_index.Statement.{statement}
 use Rattle.meetings.proofs.by_index.Tie as tie
 
 abbrev Inv-loop : tie.InvT-loop
-Inv-loop rows users t₀ s n l₀ t l = (l ≤ n) × (n ≤ 64) × ColumnsTo (conflictOf (used s)) n l t
+Inv-loop rows users t₀ s n l₀ t l = (l ≤ n) × (n ≤ mostFlows) × ColumnsTo (conflictOf (used s)) n l t
 
 abbrev μ-loop : tie.MeasureT-loop
 μ-loop rows users t₀ s n l₀ t l = n - l
@@ -54,7 +55,7 @@ loop-again c =
     let h = c .before .before .before .loop-test .taken in
     let g = good-at s (b .pre .0 .0) (w .l) h in
     let e = c .meet .ensures in
-    let n : flowAt s (w .l) .nodes ≤ 17 = g .nodes-le in
+    let n : flowAt s (w .l) .nodes ≤ mostNodes = g .nodes-le in
     let d = column-ext _ (λ k. conflictOf (used s) k (w .l)) _ _ _ _
     (λ k i. work-met s (b .args .rows .now) (b .args .users .now) (b .pre .1 .0) (b .pre .1 .1) k (w .l) i h (omega (arith, n, e .1)) _ refl) (e .0) in
     (search needs, search needs, columns-next _ _ (w .l) _ _ (omega arith) (w .inv .2) d)

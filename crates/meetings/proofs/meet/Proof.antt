@@ -1,10 +1,10 @@
 -- `meet`: the links counted for each flow, times l's tries. Assumes nothing beyond its `requires`.
 use mathlib.Core.Path.{ap}
-use Prim.Native.Nat.{ℕ, _-_, _*_, _≤_, _<_}
+use Prim.Native.Nat.{ℕ, _-_, _*_}
 use native.Mathlib.Omega.{arith}
 use Rattle.index.proofs.Counts.{met-start, met-small}
 use Rattle.meetings.proofs.Links.{column-ext}
-use borrow.Author.Needs.{needs}
+use Rattle.model.specs.Limits.{mostLinks}
 use Rattle.meetings.proofs.meet.Statement.{statement}
 use Rattle.meetings.proofs.meet.Tie as tie
 
@@ -18,7 +18,7 @@ put-column-requires c κs =
     let t = c .before .before in
     let b = t .before .before in
     let p = b .pre .0 in
-    (p .0, p .1, p .4, p .5, met-small _ _ _ (b .args .l .nodes - 1) 16 _ (omega arith) (t .touch .ensures .0))
+    (p .0, p .1, p .4, p .5, met-small _ _ _ (b .args .l .nodes - 1) mostLinks _ (omega arith) (t .touch .ensures .0))
 
 returns : tie.Need-returns
 returns c =

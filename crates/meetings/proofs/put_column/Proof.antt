@@ -1,6 +1,6 @@
 -- `put_column`: the column's first k places hold S, and all else is as it was. Assumes nothing beyond its `requires`.
-use mathlib.Core.Path.{_≡_, sym, ap, _∙_}
-use Prim.Native.Nat.{ℕ, _*_, _-_, _≤_, _<_}
+use mathlib.Core.Path.{_≡_}
+use Prim.Native.Nat.{_*_, _-_, _≤_}
 use native.Mathlib.Omega.{arith}
 use lib.ListN.{getD}
 use Rattle.meetings.specs.Columns.{ColumnDone}

@@ -1,16 +1,15 @@
 -- `place_route`: each node passed has a row of its own, and none loses one. Assumes nothing beyond its `requires`.
-use mathlib.Core.Path.{_≡_, sym, ap, _∙_}
-use Prim.Native.Nat.{ℕ, _+_, _-_, _*_, _≤_, _<_}
+use Prim.Native.Nat.{_+_, _-_, _*_, _≤_, _<_}
 use native.Mathlib.Omega.{arith}
-use lib.ListN.{getD}
 use Rattle.node_rows.specs.Index.{Placed, Rowed, Kept}
 use Rattle.node_rows.proofs.Places.{placed-next, kept-next, rowed-next, placed-more, rowed-fewer}
 use borrow.Author.Needs.{needs}
+use Rattle.model.specs.Limits.{mostNodes}
 use Rattle.node_rows.proofs.place_route.Statement.{statement}
 use Rattle.node_rows.proofs.place_route.Tie as tie
 
 abbrev Inv-loop : tie.InvT-loop
-Inv-loop k rows₀ f n j₀ rows j = (j ≤ n) × (n ≤ 17) × Placed rows (k * 17 + j) × Rowed rows (f .route) j × Kept rows₀ rows
+Inv-loop k rows₀ f n j₀ rows j = (j ≤ n) × (n ≤ mostNodes) × Placed rows (k * mostNodes + j) × Rowed rows (f .route) j × Kept rows₀ rows
 
 abbrev μ-loop : tie.MeasureT-loop
 μ-loop k rows₀ f n j₀ rows j = n - j
@@ -64,9 +63,9 @@ loop-again c =
     let o = w .inv .2 in (
       search needs,
       search needs,
-      placed-more _ _ _ (omega arith) (placed-next _ (b .args .k * 17 + w .j) x h o),
-      rowed-next _ (b .args .k * 17 + w .j) x h o (b .args .t1 .route) (w .j) e (w .inv .3),
-      λ y p. kept-next _ (b .args .k * 17 + w .j) x h o y (w .inv .4 y p),
+      placed-more _ _ _ (omega arith) (placed-next _ (b .args .k * mostNodes + w .j) x h o),
+      rowed-next _ (b .args .k * mostNodes + w .j) x h o (b .args .t1 .route) (w .j) e (w .inv .3),
+      λ y p. kept-next _ (b .args .k * mostNodes + w .j) x h o y (w .inv .4 y p),
     )
 
 returns : tie.Need-returns Inv-loop μ-loop

@@ -1,23 +1,22 @@
 -- `conflict_row`: the row's first l places hold S, and all else is as it was. Assumes nothing beyond its `requires`.
-use mathlib.Core.Path.{_≡_, refl, sym, ap, ap₂, _∙_}
-use mathlib.Core.List.{List}
-use Prim.Native.Nat.{ℕ, _*_, _-_, _≤_, _<_}
+use mathlib.Core.Path.{_≡_, sym, ap₂, _∙_}
+use Prim.Native.Nat.{_-_, _≤_}
 use native.Mathlib.Omega.{arith}
-use lib.ListN.{length, take}
+use lib.ListN.{length}
 use Rattle.model.specs.Sets.{flowAt, used, links}
 use Rattle.document.specs.Delay.{conflictWork}
 use Rattle.laws.specs.Used.{used-flow}
-use Rattle.marks.specs.Marks.{endsOn}
 use Rattle.tables.specs.Grid.{RowDone, conflictOf}
 use Rattle.tables.proofs.Checked.{good-at, count-at}
 use Rattle.tables.proofs.Fill.{row-start, row-next}
 use Rattle.marks.proofs.Routes.{work-ends}
 use borrow.Author.Needs.{needs}
+use Rattle.model.specs.Limits.{mostFlows}
 use Rattle.pairs.proofs.conflict_row.Statement.{statement}
 use Rattle.pairs.proofs.conflict_row.Tie as tie
 
 abbrev Inv-loop : tie.InvT-loop
-Inv-loop k t₀ s mine nodes m n l₀ t l = (l ≤ n) × (n ≤ 64) × RowDone (conflictOf (used s) k) l k t₀ t
+Inv-loop k t₀ s mine nodes m n l₀ t l = (l ≤ n) × (n ≤ mostFlows) × RowDone (conflictOf (used s) k) l k t₀ t
 
 abbrev μ-loop : tie.MeasureT-loop
 μ-loop k t₀ s mine nodes m n l₀ t l = n - l

@@ -1,6 +1,6 @@
 -- `divide`: the quotients and remainders of the periods so far. Assumes nothing beyond its `requires`.
 use mathlib.Core.Path.{_≡_}
-use Prim.Native.Nat.{ℕ, _-_, _≤_, _<_}
+use Prim.Native.Nat.{_-_, _≤_}
 use native.Mathlib.Omega.{arith}
 use Rattle.pairs.specs.Divided.{Divided}
 use Rattle.pairs.proofs.Parts.{divided-start, divided-next}

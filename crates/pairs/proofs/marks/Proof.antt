@@ -3,11 +3,12 @@ use Prim.Native.Nat.{_-_, _≤_}
 use Rattle.marks.specs.Marks.{Marked}
 use Rattle.marks.proofs.Routes.{marked-next, marked-fewer}
 use borrow.Author.Needs.{needs}
+use Rattle.model.specs.Limits.{mostNodes}
 use Rattle.pairs.proofs.marks.Statement.{statement}
 use Rattle.pairs.proofs.marks.Tie as tie
 
 abbrev Inv-loop : tie.InvT-loop
-Inv-loop n route m₀ j₀ m j = (n ≤ 17) × Marked m route j
+Inv-loop n route m₀ j₀ m j = (n ≤ mostNodes) × Marked m route j
 
 abbrev μ-loop : tie.MeasureT-loop
 μ-loop n route m₀ j₀ m j = n - j

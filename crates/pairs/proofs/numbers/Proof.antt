@@ -1,6 +1,6 @@
 -- `numbers`: the first k entries are T, D and C. Assumes nothing beyond its `requires`.
 use mathlib.Core.Path.{_≡_, sym, ap, _∙_}
-use Prim.Native.Nat.{ℕ, _-_, _≤_, _<_}
+use Prim.Native.Nat.{_-_, _≤_, _<_}
 use native.Mathlib.Nat.{lt-of-le-of-lt, le-trans, le-of-eq}
 use native.Mathlib.Omega.{arith}
 use lib.Dec.{lit<}
@@ -11,11 +11,12 @@ use Rattle.tables.proofs.Checked.{good-at, count-at, work-small}
 use Rattle.pairs.specs.Divided.{NumbersTo}
 use Rattle.pairs.proofs.Parts.{numbers-next}
 use borrow.Author.Needs.{needs}
+use Rattle.model.specs.Limits.{mostFlows}
 use Rattle.pairs.proofs.numbers.Statement.{statement}
 use Rattle.pairs.proofs.numbers.Tie as tie
 
 abbrev Inv-loop : tie.InvT-loop
-Inv-loop period₀ deadline₀ work₀ s n k₀ period deadline work k = (k ≤ n) × (n ≤ 64) × NumbersTo (used s) k period deadline work
+Inv-loop period₀ deadline₀ work₀ s n k₀ period deadline work k = (k ≤ n) × (n ≤ mostFlows) × NumbersTo (used s) k period deadline work
 
 abbrev μ-loop : tie.MeasureT-loop
 μ-loop period₀ deadline₀ work₀ s n k₀ period deadline work k = n - k

@@ -1,4 +1,4 @@
-use mathlib.Core.Path.{sym, ap, _∙_}
+use mathlib.Core.Path.{ap, _∙_}
 use Rattle.planner.specs.ForC.{verdictForC, verdictOfReading}
 use Rattle.answer_lines.specs.Numbers.{verdictNumbers}
 use Rattle.answer_lines.proofs.Answers.{verdict-numbers}

@@ -4,7 +4,7 @@ use Prim.Native.Nat.{_-_}
 use native.Mathlib.Omega.{arith}
 use lib.ListN.{length, take}
 use lib.Seq.{take-length}
-use Rattle.puts.specs.Stores.{Put, fieldsOf, Putting, putting-start, putting-more, putting-done, fields-next}
+use Rattle.puts.specs.Stores.{fieldsOf, Putting, putting-start, putting-more, putting-done, fields-next}
 use borrow.Author.Needs.{needs}
 use Rattle.puts.proofs.put_fields.Statement.{statement}
 use Rattle.puts.proofs.put_fields.Tie as tie

@@ -1,5 +1,4 @@
 -- `put_number` stores the digits, and the place after them is so many places on. Assumes nothing.
-use Rattle.puts.specs.Stores.{Put}
 use borrow.Author.Needs.{needs}
 use Rattle.puts.proofs.put_number.Statement.{statement}
 use Rattle.puts.proofs.put_number.Tie as tie

@@ -1,11 +1,12 @@
-use mathlib.Core.Path.{_≡_, refl, ap, _∙_}
-use Prim.Native.Nat.{ℕ, _+_, _-_, _≤_, min}
+use mathlib.Core.Path.{_≡_, refl, ap}
+use Prim.Native.Nat.{_-_, _≤_, min}
 use native.Mathlib.Omega.{arith}
-use lib.ListN.{length, take, length-map}
+use lib.ListN.{length, take}
 use Rattle.document.specs.Program.{sendLines}
 use Rattle.puts.specs.Sends.{send-more, take-min}
 use Rattle.puts.specs.Stores.{Putting, putting-start, putting-more, putting-done}
 use borrow.Author.Needs.{needs}
+use Rattle.model.specs.Limits.{mostChannels}
 use Rattle.puts.proofs.put_sends.Statement.{statement}
 use Rattle.puts.proofs.put_sends.Tie as tie
 use Rattle.puts.proofs.put_sends.Reads as reads
@@ -14,7 +15,7 @@ use Rattle.puts.proofs.number_of.Reads as number-of-reads
 use Rattle.puts.proofs.put_send.Reads as put-send-reads
 
 abbrev Inv-loop : tie.InvT-loop
-Inv-loop out₀ at n sent m place₀ i₀ out place i = (length sent ≡ 16) × (m ≡ min n 16) × (m ≤ 16) × Putting out₀ at (λ k. sendLines (take k sent)) m out place i
+Inv-loop out₀ at n sent m place₀ i₀ out place i = (length sent ≡ mostChannels) × (m ≡ min n mostChannels) × (m ≤ mostChannels) × Putting out₀ at (λ k. sendLines (take k sent)) m out place i
 
 abbrev μ-loop : tie.MeasureT-loop
 μ-loop out₀ at n sent m place₀ i₀ out place i = m - i

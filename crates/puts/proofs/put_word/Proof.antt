@@ -1,10 +1,10 @@
 -- `put_word` puts the bytes of the word in turn (`Putting`). The measure is how many are left. Assumes nothing.
-use mathlib.Core.Path.{refl, ap}
+use mathlib.Core.Path.{refl}
 use Prim.Native.Nat.{_-_}
 use native.Mathlib.Omega.{arith}
 use lib.ListN.{length, take}
 use lib.Seq.{take-length}
-use Rattle.puts.specs.Stores.{Put, Putting, putting-start, putting-more, putting-done}
+use Rattle.puts.specs.Stores.{Putting, putting-start, putting-more, putting-done}
 use Rattle.decimals.specs.Stored.{take-next}
 use borrow.Author.Needs.{needs}
 use Rattle.puts.proofs.put_word.Statement.{statement}

@@ -3,14 +3,15 @@ use Prim.Native.Nat.{_-_}
 use mathlib.Core.Path.{refl}
 use Rattle.reader.specs.Pads.{Filled, filled-start, filled-more, filled-done}
 use borrow.Author.Needs.{needs}
+use Rattle.model.specs.Limits.{mostNodes}
 use Rattle.reader.proofs.route_of.Statement.{statement}
 use Rattle.reader.proofs.route_of.Tie as tie
 
 abbrev Inv-loop : tie.InvT-loop
-Inv-loop numbers route₀ i₀ route i = Filled 17 4 numbers route i
+Inv-loop numbers route₀ i₀ route i = Filled mostNodes 4 numbers route i
 
 abbrev μ-loop : tie.MeasureT-loop
-μ-loop numbers route₀ i₀ route i = 17 - i
+μ-loop numbers route₀ i₀ route i = mostNodes - i
 
 loop-holds : tie.Need-loop-holds Inv-loop μ-loop
 loop-holds c = filled-start _ _ _ _ refl

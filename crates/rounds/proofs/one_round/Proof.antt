@@ -1,6 +1,6 @@
 -- `one_round`: as far as flow k the list is the definition's, since the value read off the tables is the definition's. Assumes nothing beyond its `requires`.
 use mathlib.Core.Path.{_≡_}
-use Prim.Native.Nat.{ℕ, _-_, _≤_, _<_}
+use Prim.Native.Nat.{_-_, _≤_, _<_}
 use native.Mathlib.Omega.{arith}
 use lib.ListN.{getD}
 use Rattle.tables.specs.Tables.{tablesOf}

@@ -1,14 +1,13 @@
 -- `rounds`: either the rounds go on as the definition's do, with room left, or they are over and the list is what the definition reaches. Assumes nothing beyond its `requires`.
-use mathlib.Core.Path.{_≡_, refl, sym, ap, _∙_}
+use mathlib.Core.Path.{refl, sym}
 use mathlib.Core.Bool.{true, false}
-use mathlib.Core.List.{List}
-use Prim.Native.Nat.{ℕ, _+_, _-_, _≤_, _<_}
+use Prim.Native.Nat.{_-_, _<_}
 use native.Mathlib.Omega.{arith}
 use Rattle.model.specs.Sets.{used}
 use Rattle.document.specs.Delay.{mostRounds}
 use Rattle.laws.specs.Rounds.{accepted-fits}
 use Rattle.tables.proofs.Carry.{fits-carried}
-use Rattle.tables.specs.Steps.{leftOf, Below, Judges, Going}
+use Rattle.tables.specs.Steps.{leftOf, Below, Going}
 use Rattle.rounds.proofs.Going.{going-start, going-next, most-small, deadlines-carried, none-gone}
 use Rattle.tables.proofs.Checked.{ones-pos}
 use borrow.Author.Needs.{needs}

@@ -7,6 +7,7 @@ use Rattle.model.specs.declared.answers.Refusal.the-variants.{TooManyFlows}
 use Rattle.model.specs.Sets.{used}
 use Rattle.document.specs.Reader.{flowsFault}
 use Rattle.rules.proofs.Flows.{flows-here, flows-on, flows-end, flow-fault-at, too-many}
+use Rattle.model.specs.Limits.{mostFlows}
 use Rattle.rules.proofs.flows_fault.Statement.{statement}
 use Rattle.rules.proofs.flows_fault.Tie as tie
 use Rattle.rules.proofs.flows_fault.Reads as reads
@@ -15,7 +16,7 @@ use Rattle.model.proofs.answers.Refusal.code.Reads as code-reads
 use Rattle.rules.proofs.record_flow_fault.Reads as record-flow-fault-reads
 
 abbrev Inv-loop : tie.InvT-loop
-Inv-loop s n k₀ k = (k ≤ 64) × (n ≡ s .count) × (flowsFault (used s) 0 (s .count) ≡ flowsFault (used s) k (s .count - k))
+Inv-loop s n k₀ k = (k ≤ mostFlows) × (n ≡ s .count) × (flowsFault (used s) 0 (s .count) ≡ flowsFault (used s) k (s .count - k))
 
 abbrev μ-loop : tie.MeasureT-loop
 μ-loop s n k₀ k = n - k

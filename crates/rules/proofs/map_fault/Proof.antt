@@ -1,5 +1,4 @@
 -- `map_fault` is rule 2: the one test decides. Assumes nothing.
-use borrow.Author.Needs.{needs}
 use borrow.Author.Tests.{eq-eqb, ne-eqb}
 use Rattle.rules.proofs.map_fault.Statement.{statement}
 use Rattle.rules.proofs.map_fault.Tie as tie

@@ -4,6 +4,7 @@ use mathlib.Core.Path.{sym, _∙_}
 use borrow.Author.Needs.{needs}
 use borrow.Author.Tests.{lt-ltb, le-ltb}
 use Rattle.rules.specs.Parts.{routeFault}
+use Rattle.model.specs.Limits.{mostNodes}
 use Rattle.rules.proofs.route_fault.Statement.{statement}
 use Rattle.rules.proofs.route_fault.Tie as tie
 use Rattle.rules.proofs.route_fault.Reads as reads
@@ -15,7 +16,7 @@ unfolding routeFault
 returns c = simp (lt-ltb _ _ (c .if1 .taken))
 
 -- more nodes than 17
-above : (c : tie.Then2) → 17 < c .before .before .args .nodes
+above : (c : tie.Then2) → mostNodes < c .before .before .args .nodes
 above c = c .if2 .taken
 
 returns-2 : tie.Need-returns-2

@@ -6,6 +6,7 @@ use borrow.Author.Needs.{needs}
 use borrow.Author.Tests.{lt-ltb, le-ltb}
 use lib.Dec.{lit<}
 use Rattle.rules.specs.Parts.{workFault}
+use Rattle.model.specs.Limits.{mostLinks}
 use Rattle.rules.proofs.work_fault.Statement.{statement}
 use Rattle.rules.proofs.work_fault.Tie as tie
 
@@ -15,7 +16,7 @@ sub-work c = search needs
 mul-work : tie.Need-mul-work
 mul-work c =
     let a = c .args in
-    let n : a .nodes - 1 ≤ 16 = omega (arith, c .pre) in
+    let n : a .nodes - 1 ≤ mostLinks = omega (arith, c .pre) in
     let t : a .tries ≤ 65535 = search needs in
     record { fits = lt-of-le-of-lt (mul-le-mul n t) (lit< tt) }
 

@@ -1,5 +1,5 @@
 -- `put_flows` puts the lines of the flows in turn (`Putting`). The measure is how many are left. Assumes nothing.
-use mathlib.Core.Path.{_≡_, refl, sym, _∙_}
+use mathlib.Core.Path.{_≡_, refl}
 use Prim.Native.Nat.{_-_, min}
 use native.Mathlib.Omega.{arith}
 use lib.ListN.{length, take, length-map}
@@ -8,11 +8,12 @@ use Rattle.model.specs.Sets.{used}
 use Rattle.puts.specs.Stores.{Putting, putting-start, putting-more, putting-done}
 use Rattle.set_lines.specs.Lines.{flow-next, flow-all}
 use borrow.Author.Needs.{needs}
+use Rattle.model.specs.Limits.{mostFlows}
 use Rattle.set_lines.proofs.put_flows.Statement.{statement}
 use Rattle.set_lines.proofs.put_flows.Tie as tie
 
 abbrev Inv-loop : tie.InvT-loop
-Inv-loop out₀ at s n place₀ k₀ out place k = (length (s .flows) ≡ 64) × (n ≡ min (s .count) 64) × Putting out₀ at (λ k. flowLines (take k (used s .flows))) n out place k
+Inv-loop out₀ at s n place₀ k₀ out place k = (length (s .flows) ≡ mostFlows) × (n ≡ min (s .count) mostFlows) × Putting out₀ at (λ k. flowLines (take k (used s .flows))) n out place k
 
 abbrev μ-loop : tie.MeasureT-loop
 μ-loop out₀ at s n place₀ k₀ out place k = n - k

@@ -11,6 +11,7 @@ use Prim.Native.Nat.{ℕ, _≤_}
 use mathlib.Core.Bool.{Bool, true, false}
 use mathlib.Core.Path.{refl}
 use borrow.Author.Needs.{needs}
+use Rattle.model.specs.Limits.{mostFlows}
 use Rattle.slot_count.proofs.count_slot.Statement.{statement}
 use Rattle.slot_count.proofs.count_slot.Tie as tie
 
@@ -24,12 +25,12 @@ mark-le placed chosen marked n c k = rw (c .marks k) (go (memb k placed))
 choose-requires : tie.Need-choose-requires
 choose-requires c κs =
     let p = c .before .before .before .pre in
-    ((p .0 .1, p .0 .3, p .0 .4, refl, refl), (getD-zeros 64, (p .1 .0, p .1 .1 .1)))
+    ((p .0 .1, p .0 .3, p .0 .4, refl, refl), (getD-zeros mostFlows, (p .1 .0, p .1 .1 .1)))
 
 tally-requires : tie.Need-tally-requires
 tally-requires c κs =
     let p = c .before .before .before .before .before .before .pre in
-    ((p .0 .0, p .0 .2, p .0 .5), λ k. (p .1 .1 .0 k, mark-le _ _ _ _ (c .before .before .choose .ensures .0) k))
+    ((p .0 .0, p .0 .5), λ k. (p .1 .1 .0 k, mark-le _ _ _ _ (c .before .before .choose .ensures .0) k))
 
 left-of-requires : tie.Need-left-of-requires
 left-of-requires c κs = search needs

@@ -1,7 +1,6 @@
 -- `left_of` is 0 or all. Assumes nothing.
 use mathlib.Core.Logic.{inl, inr}
 use mathlib.Core.Path.{refl}
-use borrow.Author.Needs.{needs}
 use Rattle.slot_count.proofs.left_of.Statement.{statement}
 use Rattle.slot_count.proofs.left_of.Tie as tie
 

@@ -3,7 +3,7 @@ use Rattle.machinery.specs.Dues.{accepted-count}
 use Rattle.machinery.specs.Slots.{sent-le, ready-short}
 use Rattle.slot_count.specs.Underway.{pass-ready, pass-quiet, pass-counted}
 use native.Mathlib.Omega.{arith}
-use borrow.Author.Needs.{needs}
+use Prim.{tt}
 use Rattle.slot_count.proofs.pass_slot.Statement.{statement}
 use Rattle.slot_count.proofs.pass_slot.Tie as tie
 
@@ -17,8 +17,13 @@ turn-requires c κs =
       ((λ k. (n .small-period k, n .small-deadline k)), ((λ k h. a .soon k (omega (arith, h, u .count-is))), (λ h. rw (u .count-is) (a .line h)))),
     )
 
+quiet-requires : tie.Need-quiet-requires
+quiet-requires c κs = tt
+
 returns : tie.Need-returns
-returns c = λ s fault d x u. pass-quiet s fault _ _ _ d x _ _ _ _ _ _ _ _ _ _ _ _ u (c .before .before .before .before .before .before .before .pre .0) _ _ _ _ _ _ (c .before .before .turn .ensures) (c .if1 .taken)
+returns c = λ s fault d x u.
+    let q = c .quiet .ensures in
+    rw (q .0, q .1, q .2, q .3) (pass-quiet s fault _ _ _ d x _ _ _ _ _ _ _ _ _ _ _ _ u (c .before .before .before .before .before .before .before .before .pre .0) _ _ _ _ _ _ (c .before .before .before .turn .ensures) (c .before .if1 .taken))
 
 count-slot-requires : tie.Need-count-slot-requires
 count-slot-requires c κs =
@@ -33,4 +38,4 @@ returns-2 : tie.Need-returns-2
 returns-2 c = λ s fault d x u. pass-counted s fault _ _ _ d x _ _ _ _ _ _ _ _ _ _ _ _ u (c .before .before .before .before .before .before .before .before .before .before .before .pre .0) _ _ _ _ _ _ (c .before .before .before .before .before .before .turn .ensures) _ _ _ _ (c .count-slot .ensures)
 
 pub pass-slot-spec : {M : Type 1} → statement M
-pass-slot-spec = tie.close (tie.spec turn-requires returns count-slot-requires returns-2)
+pass-slot-spec = tie.close (tie.spec turn-requires quiet-requires returns count-slot-requires returns-2)

@@ -2,19 +2,20 @@ use mathlib.Core.List.{[]}
 use native.Mathlib.Omega.{arith}
 use Rattle.state_bytes.proofs.Copy.{copy-after, copy-all}
 use mathlib.Core.Path.{_≡_}
-use Prim.Native.Nat.{_≤_, _-_, _+_}
+use Prim.Native.Nat.{_≤_, _-_}
 use lib.ListN.{length, take, drop, length-drop}
 use borrow.Author.Needs.{needs}
+use Rattle.model.specs.Limits.{mostFlows}
 use Rattle.state_bytes.proofs.counts_of.Statement.{statement}
 use Rattle.state_bytes.proofs.counts_of.Tie as tie
 use Rattle.state_bytes.proofs.counts_of.Reads as reads
 use Rattle.state_bytes.proofs.counts_of.Lts as lts
 
 abbrev Inv-loop : tie.InvT-loop
-Inv-loop b sent₀ k₀ sent k = (k ≤ 64) × (length sent ≡ 64) × (take k sent ≡ take k (drop 4 b))
+Inv-loop b sent₀ k₀ sent k = (k ≤ mostFlows) × (length sent ≡ mostFlows) × (take k sent ≡ take k (drop 4 b))
 
 abbrev μ-loop : tie.MeasureT-loop
-μ-loop b sent₀ k₀ sent k = 64 - k
+μ-loop b sent₀ k₀ sent k = mostFlows - k
 
 loop-holds : tie.Need-loop-holds Inv-loop μ-loop
 loop-holds c = search needs

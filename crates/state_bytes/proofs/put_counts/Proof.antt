@@ -5,18 +5,19 @@ use Rattle.state_bytes.proofs.Copy.{copy-more, copy-all}
 use mathlib.Core.Path.{_≡_}
 use mathlib.Core.List.{_++_}
 use Prim.Native.Nat.{_≤_, _-_, _+_}
-use lib.ListN.{length, take, drop}
+use lib.ListN.{length, take}
 use borrow.Author.Needs.{needs}
+use Rattle.model.specs.Limits.{mostFlows}
 use Rattle.state_bytes.proofs.put_counts.Statement.{statement}
 use Rattle.state_bytes.proofs.put_counts.Tie as tie
 use Rattle.state_bytes.proofs.put_counts.Reads as reads
 use Rattle.state_bytes.proofs.put_counts.Lts as lts
 
 abbrev Inv-loop : tie.InvT-loop
-Inv-loop b₀ sent k₀ b k = (k ≤ 64) × (length b ≡ 68) × (length sent ≡ 64) × (take (k + 4) b ≡ take 4 b₀ ++ take k sent)
+Inv-loop b₀ sent k₀ b k = (k ≤ mostFlows) × (length b ≡ 68) × (length sent ≡ mostFlows) × (take (k + 4) b ≡ take 4 b₀ ++ take k sent)
 
 abbrev μ-loop : tie.MeasureT-loop
-μ-loop b₀ sent k₀ b k = 64 - k
+μ-loop b₀ sent k₀ b k = mostFlows - k
 
 loop-holds : tie.Need-loop-holds Inv-loop μ-loop
 loop-holds c = (search needs, search needs, c .good .1 .0 .1 .0 .1, sym (append-nil (take 4 (c .args .b .now))))

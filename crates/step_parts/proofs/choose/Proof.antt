@@ -6,9 +6,10 @@ use Rattle.machinery.specs.Links.{linkIn, Busy, busy-none}
 use lib.Seq.{length-take-le, getD-take}
 use lib.ListN.{length, getD, take, drop}
 use native.Mathlib.Omega.{arith}
-use Prim.Native.Nat.{ℕ, _-_, _≤_, _<_, _+_}
+use Prim.Native.Nat.{_-_, _≤_, _<_}
 use mathlib.Core.Path.{_≡_, refl}
 use borrow.Author.Needs.{needs}
+use Rattle.model.specs.Limits.{mostFlows}
 use Rattle.step_parts.proofs.choose.Statement.{statement}
 use Rattle.step_parts.proofs.choose.Tie as tie
 
@@ -35,7 +36,7 @@ long : (c : tie.Start Inv-loop μ-loop) → length (take (c .args .lined) (c .ar
 long c = length-take-le _ _ (omega (arith, c .pre .0))
 
 -- the flow that is judged is one of the array's
-small : (c : tie.In-loop Inv-loop μ-loop) → getD (c .before .before .args .order .now) (c .before .loop .i) 0 < 64
+small : (c : tie.In-loop Inv-loop μ-loop) → getD (c .before .before .args .order .now) (c .before .loop .i) 0 < mostFlows
 small c = c .before .before .pre .1 .1 .0 (c .before .loop .i) (search needs)
 
 mul-k : tie.Need-mul-k Inv-loop μ-loop

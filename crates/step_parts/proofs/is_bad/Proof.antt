@@ -4,19 +4,19 @@ use Rattle.model.specs.Sums.{anyTo}
 use lib.ListN.{getD}
 use lib.Dec.{ltb}
 use borrow.Author.Tests.{lt-ltb, le-ltb}
-use native.Mathlib.Omega.{arith}
-use Prim.Native.Nat.{ℕ, _-_, _≤_, _<_}
-use mathlib.Core.Bool.{Bool, true, false, _||_, or-true}
-use mathlib.Core.Path.{_≡_, refl, sym, ap, _∙_}
+use Prim.Native.Nat.{_-_, _≤_}
+use mathlib.Core.Bool.{Bool, false, _||_, or-true}
+use mathlib.Core.Path.{_≡_, sym, ap, _∙_}
 use borrow.Author.Needs.{needs}
+use Rattle.model.specs.Limits.{lastSlot, mostFlows}
 use Rattle.step_parts.proofs.is_bad.Statement.{statement}
 use Rattle.step_parts.proofs.is_bad.Tie as tie
 
 abbrev Inv-loop : tie.InvT-loop
-Inv-loop t sent work k₀ k = (k ≤ 64) × (t ≤ 4000000000) × (anyTo (λ j. ltb (getD work j 0) (getD sent j 0)) k ≡ false)
+Inv-loop t sent work k₀ k = (k ≤ mostFlows) × (t ≤ lastSlot) × (anyTo (λ j. ltb (getD work j 0) (getD sent j 0)) k ≡ false)
 
 abbrev μ-loop : tie.MeasureT-loop
-μ-loop t sent work k₀ k = 64 - k
+μ-loop t sent work k₀ k = mostFlows - k
 
 returns : tie.Need-returns Inv-loop μ-loop
 returns c = rw (lt-ltb _ _ (c .if1 .taken))
@@ -33,8 +33,8 @@ element-copy-out-if2-2 c = search needs
 returns-2 : tie.Need-returns-2 Inv-loop μ-loop
 returns-2 c =
     let a = c .before .before .before .before .before .before .args in
-    let h = any-in (λ j. ltb (getD (a .work .now) j 0) (getD (a .sent .now) j 0)) 64 (c .before .before .before .before .loop .k) (search needs) (lt-ltb _ _ (c .if2 .taken)) in
-    sym (ap (λ (b : Bool). ltb 4000000000 (a .t) || b) h ∙ or-true (ltb 4000000000 (a .t)))
+    let h = any-in (λ j. ltb (getD (a .work .now) j 0) (getD (a .sent .now) j 0)) mostFlows (c .before .before .before .before .loop .k) (search needs) (lt-ltb _ _ (c .if2 .taken)) in
+    sym (ap (λ (b : Bool). ltb lastSlot (a .t) || b) h ∙ or-true (ltb lastSlot (a .t)))
 
 add-k : tie.Need-add-k Inv-loop μ-loop
 add-k c = search needs
@@ -50,7 +50,7 @@ loop-again c =
 returns-3 : tie.Need-returns-3 Inv-loop μ-loop
 returns-3 c =
     let v = c .before .loop in
-    let e : v .k ≡ 64 = search needs in
+    let e : v .k ≡ mostFlows = search needs in
     rw (le-ltb _ _ (v .inv .1), ← e) (sym (v .inv .2))
 
 pub is-bad-spec : {M : Type 1} → statement M

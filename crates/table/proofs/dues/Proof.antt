@@ -1,11 +1,14 @@
 -- `dues` gives each flow's deadline in turn. Assumes nothing.
 use Rattle.machinery.specs.Dues.{dueIn}
 use Rattle.machinery.specs.Lists.{Through, through-none, through-next}
-use lib.ListN.{getD, length}
+use lib.ListN.{getD}
 use native.Mathlib.Omega.{arith}
-use Prim.Native.Nat.{ℕ, _-_, _≤_}
-use mathlib.Core.Path.{_≡_}
+use native.Mathlib.Nat.{min-eq-left, div-add-mod'}
+use Prim.{tt}
+use Prim.Native.Nat.{ℕ, _-_, _≤_, min}
+use mathlib.Core.Path.{_≡_, _∙_}
 use borrow.Author.Needs.{needs}
+use Rattle.model.specs.Limits.{lastSlot}
 use Rattle.table.proofs.dues.Statement.{statement}
 use Rattle.table.proofs.dues.Tie as tie
 
@@ -15,32 +18,33 @@ Inv-loop count t start period deadline due₀ k₀ due k = (k ≤ count) × Thro
 abbrev μ-loop : tie.MeasureT-loop
 μ-loop count t start period deadline due₀ k₀ due k = count - k
 
+-- an absolute deadline is far from the last number
+fits : (a p d t : ℕ) → a ≤ 65535 → d ≤ 65535 → t ≤ lastSlot → min (dueIn a p d t) 4294967295 ≡ dueIn a p d t
+fits a p d t f g h = min-eq-left (omega (arith, div-add-mod' (t - a) p, f, g, h))
+
 loop-holds : tie.Need-loop-holds Inv-loop μ-loop
 loop-holds c = (search needs, through-none _ _)
 
-mul-due-of : tie.Need-mul-due-of Inv-loop μ-loop
-mul-due-of c = search needs
+mul-t10 : tie.Need-mul-t10 Inv-loop μ-loop
+mul-t10 c = search needs
 
-element-copy-out-due-of : tie.Need-element-copy-out-due-of Inv-loop μ-loop
-element-copy-out-due-of c = search needs
+element-copy-out-t13 : tie.Need-element-copy-out-t13 Inv-loop μ-loop
+element-copy-out-t13 c = search needs
 
-mul-due-of-2 : tie.Need-mul-due-of-2 Inv-loop μ-loop
-mul-due-of-2 c = search needs
+mul-t15 : tie.Need-mul-t15 Inv-loop μ-loop
+mul-t15 c = search needs
 
-element-copy-out-due-of-2 : tie.Need-element-copy-out-due-of-2 Inv-loop μ-loop
-element-copy-out-due-of-2 c = search needs
+element-copy-out-t18 : tie.Need-element-copy-out-t18 Inv-loop μ-loop
+element-copy-out-t18 c = search needs
 
-mul-due-of-3 : tie.Need-mul-due-of-3 Inv-loop μ-loop
-mul-due-of-3 c = search needs
+mul-t20 : tie.Need-mul-t20 Inv-loop μ-loop
+mul-t20 c = search needs
 
-element-copy-out-due-of-3 : tie.Need-element-copy-out-due-of-3 Inv-loop μ-loop
-element-copy-out-due-of-3 c = search needs
+element-copy-out-t23 : tie.Need-element-copy-out-t23 Inv-loop μ-loop
+element-copy-out-t23 c = search needs
 
 due-of-requires : tie.Need-due-of-requires Inv-loop μ-loop
-due-of-requires c κs =
-    let p = c .before .before .before .before .before .pre in
-    let h = p .1 (c .before .before .before .before .loop .k) (search needs) in
-    (h .0, h .1, h .2, p .0 .1)
+due-of-requires c κs = tt
 
 mul-due : tie.Need-mul-due Inv-loop μ-loop
 mul-due c = search needs
@@ -57,7 +61,9 @@ loop-less c = search needs
 loop-again : tie.Need-loop-again Inv-loop μ-loop
 loop-again c =
     let v = c .before .before .before .before .before .loop in
-    (search needs, through-next _ (v .k) _ _ _ (omega arith) (c .due-of .ensures) (v .inv .1))
+    let p = c .before .before .before .before .before .before .pre in
+    let h = p .1 (v .k) (search needs) in
+    (search needs, through-next _ (v .k) _ _ _ (omega arith) (c .due-of .ensures ∙ fits _ _ _ _ (h .0) (h .1) (p .0 .1)) (v .inv .1))
 
 returns : tie.Need-returns Inv-loop μ-loop
 returns c =
@@ -71,12 +77,12 @@ dues-spec =
     Inv-loop
     μ-loop
     loop-holds
-    mul-due-of
-    element-copy-out-due-of
-    mul-due-of-2
-    element-copy-out-due-of-2
-    mul-due-of-3
-    element-copy-out-due-of-3
+    mul-t10
+    element-copy-out-t13
+    mul-t15
+    element-copy-out-t18
+    mul-t20
+    element-copy-out-t23
     due-of-requires
     mul-due
     element-write-due

@@ -1,10 +1,13 @@
 -- `restart` gives what each flow's packet has had in turn. Assumes nothing.
 use Rattle.machinery.specs.Dues.{hadIn}
 use Rattle.machinery.specs.Lists.{Through, through-none, through-next}
-use lib.ListN.{getD, length}
-use native.Mathlib.Nat.{le-refl}
+use lib.ListN.{getD}
+use native.Mathlib.Nat.{le-refl, min-eq-left}
 use native.Mathlib.Omega.{arith}
-use Prim.Native.Nat.{ℕ, _-_, _≤_}
+use Prim.{tt}
+use mathlib.Core.Bool.{cond}
+use lib.Dec.{eqb}
+use Prim.Native.Nat.{ℕ, _+_, _-_, _≤_, min}
 use mathlib.Core.Path.{_≡_, ap, _∙_}
 use borrow.Author.Needs.{needs}
 use Rattle.table.proofs.restart.Statement.{statement}
@@ -19,25 +22,23 @@ abbrev μ-loop : tie.MeasureT-loop
 loop-holds : tie.Need-loop-holds Inv-loop μ-loop
 loop-holds c = (search needs, through-none _ _)
 
-mul-had-of : tie.Need-mul-had-of Inv-loop μ-loop
-mul-had-of c = search needs
+mul-t9 : tie.Need-mul-t9 Inv-loop μ-loop
+mul-t9 c = search needs
+
+element-copy-out-t12 : tie.Need-element-copy-out-t12 Inv-loop μ-loop
+element-copy-out-t12 c = search needs
+
+mul-t14 : tie.Need-mul-t14 Inv-loop μ-loop
+mul-t14 c = search needs
+
+element-copy-out-t17 : tie.Need-element-copy-out-t17 Inv-loop μ-loop
+element-copy-out-t17 c = search needs
 
 element-copy-out-had-of : tie.Need-element-copy-out-had-of Inv-loop μ-loop
 element-copy-out-had-of c = search needs
 
-mul-had-of-2 : tie.Need-mul-had-of-2 Inv-loop μ-loop
-mul-had-of-2 c = search needs
-
-element-copy-out-had-of-2 : tie.Need-element-copy-out-had-of-2 Inv-loop μ-loop
-element-copy-out-had-of-2 c = search needs
-
-element-copy-out-had-of-3 : tie.Need-element-copy-out-had-of-3 Inv-loop μ-loop
-element-copy-out-had-of-3 c = search needs
-
 had-of-requires : tie.Need-had-of-requires Inv-loop μ-loop
-had-of-requires c κs =
-    let p = c .before .before .before .before .before .pre in
-    (p .1 (c .before .before .before .before .loop .k) (search needs), p .0 .1)
+had-of-requires c κs = tt
 
 element-write-sent : tie.Need-element-write-sent Inv-loop μ-loop
 element-write-sent c = search needs
@@ -51,8 +52,13 @@ loop-less c = search needs
 loop-again : tie.Need-loop-again Inv-loop μ-loop
 loop-again c =
     let v = c .before .before .before .before .before .loop in
-    let a = c .before .before .before .before .before .before .args in
-    let e = c .had-of .ensures ∙ ap (λ (n : ℕ). hadIn (getD (a .due .now) (v .k) 0) (getD (a .deadline .now) (v .k) 0) (a .t) n) (v .inv .1 .above (v .k) (le-refl (v .k))) in
+    let b = c .before .before .before .before .before .before in
+    let a = b .args in
+    let d = getD (a .deadline .now) (v .k) 0 in
+    let w = b .pre .1 (v .k) (search needs) in
+    let m : min (a .t + d) 4294967295 ≡ a .t + d = min-eq-left (omega (arith, w, b .pre .0 .1)) in
+    let f = ap (λ (x : ℕ). cond (eqb x (getD (a .due .now) (v .k) 0)) 0 (getD (v .sent) (v .k) 0)) m in
+    let e = c .had-of .ensures ∙ f ∙ ap (λ (n : ℕ). hadIn (getD (a .due .now) (v .k) 0) d (a .t) n) (v .inv .1 .above (v .k) (le-refl (v .k))) in
     (search needs, through-next _ (v .k) _ _ _ (omega arith) e (v .inv .1))
 
 returns : tie.Need-returns Inv-loop μ-loop
@@ -67,11 +73,11 @@ restart-spec =
     Inv-loop
     μ-loop
     loop-holds
-    mul-had-of
+    mul-t9
+    element-copy-out-t12
+    mul-t14
+    element-copy-out-t17
     element-copy-out-had-of
-    mul-had-of-2
-    element-copy-out-had-of-2
-    element-copy-out-had-of-3
     had-of-requires
     element-write-sent
     add-k

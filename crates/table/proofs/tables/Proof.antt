@@ -9,16 +9,18 @@ use Rattle.model.specs.declared.kinds.Flow.{Flow}
 use Rattle.model.specs.declared.kinds.FlowSet.{FlowSet}
 use lib.ListN.{getD, length, length-set}
 use native.Mathlib.Omega.{arith}
-use Prim.Native.Nat.{ℕ, _-_, _*_, _≤_, _<_}
+use Prim.{tt}
+use Prim.Native.Nat.{ℕ, _-_, _≤_, _<_}
 use mathlib.Core.List.{List}
 use mathlib.Core.Path.{_≡_, sym, ap, _∙_}
 use borrow.Author.Needs.{needs}
+use Rattle.model.specs.Limits.{mostFlows}
 use Rattle.table.proofs.tables.Statement.{statement}
 use Rattle.table.proofs.tables.Tie as tie
 
 abbrev Inv-loop : tie.InvT-loop
 Inv-loop start₀ period₀ deadline₀ work₀ tries₀ routes₀ s count k₀ start period deadline work tries routes k =
-    (k ≤ count) × (count ≤ 64)
+    (k ≤ count) × (count ≤ mostFlows)
     × Through (λ j. flowAt (used s) j .start) k start₀ start
     × Through (λ j. flowAt (used s) j .period .0) k period₀ period
     × Through (λ j. flowAt (used s) j .deadline .0) k deadline₀ deadline
@@ -26,7 +28,7 @@ Inv-loop start₀ period₀ deadline₀ work₀ tries₀ routes₀ s count k₀ 
     × ((j : ℕ) → j < k → getD start j 0 ≤ 65535)
     × ((j : ℕ) → j < k → getD period j 0 ≤ 65535)
     × ((j : ℕ) → j < k → getD deadline j 0 ≤ 65535)
-    × (length tries ≡ 64) × (length routes ≡ 64) × RoutesTo s k tries routes
+    × (length tries ≡ mostFlows) × (length routes ≡ mostFlows) × RoutesTo s k tries routes
 
 abbrev μ-loop : tie.MeasureT-loop
 μ-loop start₀ period₀ deadline₀ work₀ tries₀ routes₀ s count k₀ start period deadline work tries routes k = count - k
@@ -45,8 +47,8 @@ mul-f c = search needs
 element-copy-out-f : tie.Need-element-copy-out-f Inv-loop μ-loop
 element-copy-out-f c = search needs
 
-cast-start : tie.Need-cast-start Inv-loop μ-loop
-cast-start c = search needs
+first-release-requires : tie.Need-first-release-requires Inv-loop μ-loop
+first-release-requires c κs = tt
 
 mul-start : tie.Need-mul-start Inv-loop μ-loop
 mul-start c = search needs
@@ -54,8 +56,8 @@ mul-start c = search needs
 element-write-start : tie.Need-element-write-start Inv-loop μ-loop
 element-write-start c = search needs
 
-cast-period : tie.Need-cast-period Inv-loop μ-loop
-cast-period c = search needs
+bounded-requires : tie.Need-bounded-requires Inv-loop μ-loop
+bounded-requires c κs = tt
 
 mul-period : tie.Need-mul-period Inv-loop μ-loop
 mul-period c = search needs
@@ -63,8 +65,8 @@ mul-period c = search needs
 element-write-period : tie.Need-element-write-period Inv-loop μ-loop
 element-write-period c = search needs
 
-cast-deadline : tie.Need-cast-deadline Inv-loop μ-loop
-cast-deadline c = search needs
+bounded-requires-2 : tie.Need-bounded-requires-2 Inv-loop μ-loop
+bounded-requires-2 c κs = tt
 
 mul-deadline : tie.Need-mul-deadline Inv-loop μ-loop
 mul-deadline c = search needs
@@ -100,23 +102,23 @@ loop-again : tie.Need-loop-again Inv-loop μ-loop
 loop-again c =
     let v = c .before .before .before .before .before .before .before .before .before .loop in
     let s = c .before .before .before .before .before .before .before .before .before .before .args .t1 in
-    let x : flowAt s (v .k) .start ≤ 65535 = search needs in
-    let z : flowAt s (v .k) .period .0 ≤ 65535 = search needs in
-    let y : flowAt s (v .k) .deadline .0 ≤ 65535 = search needs in
+    let a = c .before .before .before .before .before .before .first-release .ensures in
+    let q = c .before .before .before .before .before .bounded .ensures in
+    let d = c .before .before .before .before .bounded2 .ensures in
     let h = c .before .before .before .before .before .before .before .before .loop-test .taken in
     let p = c .before .before .before .before .before .before .before .before .before .before .pre .1 in
     let u = sym (used-flow s (v .k) h) in
-    let l : v .k < 64 = omega (arith, h, v .inv .1) in
+    let l : v .k < mostFlows = omega (arith, h, v .inv .1) in
     let e = c .put-route .ensures in (
       omega (arith, h),
       v .inv .1,
-      through-next _ (v .k) _ _ _ (rw (p .0) l) (ap (λ (f : Flow). f .start) u) (v .inv .2),
-      through-next _ (v .k) _ _ _ (rw (p .1) l) (ap (λ (f : Flow). f .period .0) u) (v .inv .3),
-      through-next _ (v .k) _ _ _ (rw (p .2) l) (ap (λ (f : Flow). f .deadline .0) u) (v .inv .4),
+      through-next _ (v .k) _ _ _ (rw (p .0) l) (a .0 ∙ ap (λ (f : Flow). f .start) u) (v .inv .2),
+      through-next _ (v .k) _ _ _ (rw (p .1) l) (q .0 ∙ ap (λ (f : Flow). f .period .0) u) (v .inv .3),
+      through-next _ (v .k) _ _ _ (rw (p .2) l) (d .0 ∙ ap (λ (f : Flow). f .deadline .0) u) (v .inv .4),
       through-next _ (v .k) _ _ _ (rw (p .3) l) (c .before .before .before .work .ensures ∙ ap work u) (v .inv .5),
-      set-le (v .start) (v .k) _ 65535 (rw (v .inv .2 .long ∙ p .0) l) (v .inv .6) x,
-      set-le (v .period) (v .k) _ 65535 (rw (v .inv .3 .long ∙ p .1) l) (v .inv .7) z,
-      set-le (v .deadline) (v .k) _ 65535 (rw (v .inv .4 .long ∙ p .2) l) (v .inv .8) y,
+      set-le (v .start) (v .k) _ 65535 (rw (v .inv .2 .long ∙ p .0) l) (v .inv .6) (a .1),
+      set-le (v .period) (v .k) _ 65535 (rw (v .inv .3 .long ∙ p .1) l) (v .inv .7) (q .1),
+      set-le (v .deadline) (v .k) _ 65535 (rw (v .inv .4 .long ∙ p .2) l) (v .inv .8) (d .1),
       ap length (e .0) ∙ length-set (v .tries) (v .k) _ ∙ v .inv .9,
       ap length (e .1 .0) ∙ length-set (v .routes) (v .k) _ ∙ v .inv .10,
       rw (e .0, e .1 .0) (routes-next s (v .k) _ _ (rw (v .inv .9) l) (rw (v .inv .10) l) (e .1 .1) (v .inv .11)),
@@ -153,13 +155,13 @@ tables-spec =
     loop-holds
     mul-f
     element-copy-out-f
-    cast-start
+    first-release-requires
     mul-start
     element-write-start
-    cast-period
+    bounded-requires
     mul-period
     element-write-period
-    cast-deadline
+    bounded-requires-2
     mul-deadline
     element-write-deadline
     work-requires

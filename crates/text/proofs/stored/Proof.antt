@@ -6,16 +6,17 @@ use native.Mathlib.Omega.{arith}
 use borrow.Author.Count.{below-more}
 use lib.ListN.{length, length-map}
 use Rattle.model.specs.Sets.{flowAt}
-use Rattle.writer.specs.Written.{Stored, StoredFlow}
+use Rattle.writer.specs.Written.{StoredFlow}
 use borrow.Author.Needs.{needs}
+use Rattle.model.specs.Limits.{mostFlows}
 use Rattle.text.proofs.stored.Statement.{statement}
 use Rattle.text.proofs.stored.Tie as tie
 
 abbrev Inv-loop : tie.InvT-loop
-Inv-loop s all₀ k₀ all k = (length (s .flows) ≡ 64) × (s .map .0 ≤ 65535) × (k ≤ 64) × (all ≡ true) × ((j : ℕ) → j < k → StoredFlow (flowAt s j))
+Inv-loop s all₀ k₀ all k = (length (s .flows) ≡ mostFlows) × (s .map .0 ≤ 65535) × (k ≤ mostFlows) × (all ≡ true) × ((j : ℕ) → j < k → StoredFlow (flowAt s j))
 
 abbrev μ-loop : tie.MeasureT-loop
-μ-loop s all₀ k₀ all k = 64 - k
+μ-loop s all₀ k₀ all k = mostFlows - k
 
 loop-holds : tie.Need-loop-holds Inv-loop μ-loop
 loop-holds c = (simp length-map at (c .good .0 .1 .1 .1 .1 .0 .1 .0 .1), omega arith, omega arith, refl, λ j h. absurd (omega arith))

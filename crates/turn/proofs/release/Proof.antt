@@ -1,11 +1,14 @@
 -- `release` takes the flows in turn: one whose next release is t gets its new numbers. Assumes nothing.
 use Rattle.machinery.specs.Lists.{through-none}
 use Rattle.machinery.specs.Turns.{Released, released-now, released-later, soon-set, soon-stay}
-use lib.ListN.{getD, length}
+use lib.ListN.{getD}
 use native.Mathlib.Omega.{arith}
+use native.Mathlib.Nat.{min-eq-left}
+use Prim.{tt}
 use Prim.Native.Nat.{ℕ, _+_, _-_, _≤_, _<_, min}
-use mathlib.Core.Path.{_≡_, refl}
+use mathlib.Core.Path.{_≡_, _∙_}
 use borrow.Author.Needs.{needs}
+use Rattle.model.specs.Limits.{lastSlot}
 use Rattle.turn.proofs.release.Statement.{statement}
 use Rattle.turn.proofs.release.Tie as tie
 
@@ -16,6 +19,10 @@ Inv-loop count t period deadline due₀ next₀ sent₀ soonest₀ k₀ due next
 abbrev μ-loop : tie.MeasureT-loop
 μ-loop count t period deadline due₀ next₀ sent₀ soonest₀ k₀ due next sent soonest k = count - k
 
+-- a slot of the machine and a count of slots: their sum is far from the last number
+no-cut : (t n : ℕ) → t ≤ lastSlot → n ≤ 65535 → min (t + n) 4294967295 ≡ t + n
+no-cut t n h k = min-eq-left (omega (arith, h, k))
+
 loop-holds : tie.Need-loop-holds Inv-loop μ-loop
 loop-holds c = (search needs, record { dues = through-none _ _; nexts = through-none _ _; sents = through-none _ _ }, λ j h. absurd (omega arith))
 
@@ -25,26 +32,26 @@ mul-at c = search needs
 element-copy-out-at : tie.Need-element-copy-out-at Inv-loop μ-loop
 element-copy-out-at c = search needs
 
-mul-after : tie.Need-mul-after Inv-loop μ-loop
-mul-after c = search needs
+mul-t19 : tie.Need-mul-t19 Inv-loop μ-loop
+mul-t19 c = search needs
 
-element-copy-out-after : tie.Need-element-copy-out-after Inv-loop μ-loop
-element-copy-out-after c = search needs
+element-copy-out-t22 : tie.Need-element-copy-out-t22 Inv-loop μ-loop
+element-copy-out-t22 c = search needs
 
-add-after : tie.Need-add-after Inv-loop μ-loop
-add-after c = let h = c .before .before .before .before .before .pre .1 (c .before .before .before .before .loop .k) in omega (arith, c .before .before .before .before .before .pre .0 .1, h .0, h .1)
+after-requires : tie.Need-after-requires Inv-loop μ-loop
+after-requires c κs = tt
+
+mul-t19-2 : tie.Need-mul-t19-2 Inv-loop μ-loop
+mul-t19-2 c = search needs
+
+element-copy-out-t22-2 : tie.Need-element-copy-out-t22-2 Inv-loop μ-loop
+element-copy-out-t22-2 c = search needs
+
+after-requires-2 : tie.Need-after-requires-2 Inv-loop μ-loop
+after-requires-2 c κs = tt
 
 mul-due : tie.Need-mul-due Inv-loop μ-loop
 mul-due c = search needs
-
-element-copy-out-due : tie.Need-element-copy-out-due Inv-loop μ-loop
-element-copy-out-due c = search needs
-
-add-due : tie.Need-add-due Inv-loop μ-loop
-add-due c = let h = c .before .before .before .before .before .before .pre .1 (c .before .before .before .before .before .loop .k) in omega (arith, c .before .before .before .before .before .before .pre .0 .1, h .0, h .1)
-
-mul-due-2 : tie.Need-mul-due-2 Inv-loop μ-loop
-mul-due-2 c = search needs
 
 element-write-due : tie.Need-element-write-due Inv-loop μ-loop
 element-write-due c = search needs
@@ -69,13 +76,16 @@ loop-less c = search needs
 
 loop-again : tie.Need-loop-again Inv-loop μ-loop
 loop-again c =
-    let v = c .before .before .before .before .before .before .loop in
-    let p = c .before .before .before .before .before .before .before .pre .0 in
-    let l = c .before .before .before .before .before .loop-test .taken in
-    let a = c .before .before .before .before .before .before .before .args in
+    let v = c .before .before .before .before .before .before .before .before .loop in
+    let p = c .before .before .before .before .before .before .before .before .before .pre .0 in
+    let l = c .before .before .before .before .before .before .before .loop-test .taken in
+    let a = c .before .before .before .before .before .before .before .before .before .args in
+    let w = c .before .before .before .before .before .before .before .before .before .pre .1 (v .k) in
+    let d = c .before .before .before .after .ensures ∙ no-cut _ _ (p .1) (w .1) in
+    let n = c .before .after2 .ensures ∙ no-cut _ _ (p .1) (w .0) in
     let r = v .inv .1 in (
       omega (arith, l),
-      released-now (v .k) (a .t) (a .period .now) (a .deadline .now) _ _ _ _ _ _ r (omega (arith, l, p)) (omega (arith, l, p)) (omega (arith, l, p)) (c .before .before .before .if1 .taken),
+      rw (d, n) (released-now (v .k) (a .t) (a .period .now) (a .deadline .now) _ _ _ _ _ _ r (omega (arith, l, p)) (omega (arith, l, p)) (omega (arith, l, p)) (c .before .before .before .before .before .if1 .taken)),
       soon-set (v .next) (v .k) _ (v .soonest) _ (omega (arith, l, p, r .nexts .long)) (omega (arith, c .earlier .ensures)) (omega (arith, c .earlier .ensures)) (v .inv .2),
     )
 
@@ -113,13 +123,13 @@ release-spec =
     loop-holds
     mul-at
     element-copy-out-at
-    mul-after
-    element-copy-out-after
-    add-after
+    mul-t19
+    element-copy-out-t22
+    after-requires
+    mul-t19-2
+    element-copy-out-t22-2
+    after-requires-2
     mul-due
-    element-copy-out-due
-    add-due
-    mul-due-2
     element-write-due
     mul-next
     element-write-next

@@ -8,8 +8,9 @@ use lib.Dec.{leb, ltb, eqb}
 use lib.ListN.{getD, length}
 use native.Mathlib.Nat.{le-refl}
 use native.Mathlib.Omega.{arith}
-use Prim.Native.Nat.{ℕ, _+_, _-_, _≤_, _<_}
-use mathlib.Core.Bool.{Bool, true, false, _&&_}
+use Prim.{tt}
+use Prim.Native.Nat.{ℕ, _+_, _-_, _≤_}
+use mathlib.Core.Bool.{Bool, _&&_}
 use mathlib.Core.Path.{_≡_, refl, sym, ap, ap₂, _∙_}
 use borrow.Author.Needs.{needs}
 use Rattle.turn.proofs.tally.Statement.{statement}
@@ -52,25 +53,25 @@ element-copy-out-is-delivered : tie.Need-element-copy-out-is-delivered Inv-loop 
 element-copy-out-is-delivered c = search needs
 
 is-delivered-requires : tie.Need-is-delivered-requires Inv-loop μ-loop
-is-delivered-requires c κs = small (c .before .before .before) .0
+is-delivered-requires c κs = tt
 
-mul-is-dropped : tie.Need-mul-is-dropped Inv-loop μ-loop
-mul-is-dropped c = search needs
+mul-delivered : tie.Need-mul-delivered Inv-loop μ-loop
+mul-delivered c = search needs
+
+element-copy-out-delivered : tie.Need-element-copy-out-delivered Inv-loop μ-loop
+element-copy-out-delivered c = search needs
+
+mul-dropped : tie.Need-mul-dropped Inv-loop μ-loop
+mul-dropped c = search needs
+
+element-copy-out-dropped : tie.Need-element-copy-out-dropped Inv-loop μ-loop
+element-copy-out-dropped c = search needs
 
 element-copy-out-is-dropped : tie.Need-element-copy-out-is-dropped Inv-loop μ-loop
 element-copy-out-is-dropped c = search needs
 
-mul-is-dropped-2 : tie.Need-mul-is-dropped-2 Inv-loop μ-loop
-mul-is-dropped-2 c = search needs
-
-element-copy-out-is-dropped-2 : tie.Need-element-copy-out-is-dropped-2 Inv-loop μ-loop
-element-copy-out-is-dropped-2 c = search needs
-
-element-copy-out-is-dropped-3 : tie.Need-element-copy-out-is-dropped-3 Inv-loop μ-loop
-element-copy-out-is-dropped-3 c = search needs
-
 is-dropped-requires : tie.Need-is-dropped-requires Inv-loop μ-loop
-is-dropped-requires c κs = c .before .before .before .before .before .before .before .before .before .pre .0 .1
+is-dropped-requires c κs = tt
 
 one-if-requires : tie.Need-one-if-requires Inv-loop μ-loop
 one-if-requires c κs = search needs
@@ -136,11 +137,11 @@ tally-spec =
     add-after
     element-copy-out-is-delivered
     is-delivered-requires
-    mul-is-dropped
+    mul-delivered
+    element-copy-out-delivered
+    mul-dropped
+    element-copy-out-dropped
     element-copy-out-is-dropped
-    mul-is-dropped-2
-    element-copy-out-is-dropped-2
-    element-copy-out-is-dropped-3
     is-dropped-requires
     one-if-requires
     add-delivered

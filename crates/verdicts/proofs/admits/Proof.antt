@@ -1,7 +1,7 @@
 -- `admits`: all of the bounds so far are kept. Assumes nothing beyond its `requires`.
 use mathlib.Core.Path.{_≡_, sym, ap, ap₂, _∙_}
 use mathlib.Core.Bool.{Bool, _&&_}
-use Prim.Native.Nat.{ℕ, _-_, _≤_, _<_}
+use Prim.Native.Nat.{_-_, _≤_, _<_}
 use native.Mathlib.Omega.{arith}
 use lib.Dec.{leb}
 use lib.ListN.{getD}
@@ -12,11 +12,12 @@ use Rattle.document.specs.Delay.{deadline, admits}
 use Rattle.laws.specs.Used.{used-flow}
 use Rattle.tables.proofs.Parts.{all-zero, all-next}
 use borrow.Author.Needs.{needs}
+use Rattle.model.specs.Limits.{mostFlows}
 use Rattle.verdicts.proofs.admits.Statement.{statement}
 use Rattle.verdicts.proofs.admits.Tie as tie
 
 abbrev Inv-loop : tie.InvT-loop
-Inv-loop s bound n all₀ k₀ all k = (k ≤ n) × (n ≤ 64) × (all ≡ allTo (λ i. leb (getD bound i 0) (deadline (used s) i)) k)
+Inv-loop s bound n all₀ k₀ all k = (k ≤ n) × (n ≤ mostFlows) × (all ≡ allTo (λ i. leb (getD bound i 0) (deadline (used s) i)) k)
 
 abbrev μ-loop : tie.MeasureT-loop
 μ-loop s bound n all₀ k₀ all k = n - k

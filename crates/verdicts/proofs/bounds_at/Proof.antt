@@ -1,6 +1,6 @@
 -- `bounds_at`: each part is the definition's, and the margin is made of two of them. Assumes nothing beyond its `requires`.
-use mathlib.Core.Path.{_≡_, sym, ap, _∙_}
-use Prim.Native.Nat.{_≤_, _<_}
+use mathlib.Core.Path.{sym, ap, _∙_}
+use Prim.Native.Nat.{_<_}
 use native.Mathlib.Nat.{le-trans, le-of-eq}
 use native.Mathlib.Omega.{arith}
 use mir.Syntax.{w32}
@@ -12,11 +12,12 @@ use Rattle.laws.specs.Used.{used-flow}
 use Rattle.tables.proofs.Checked.{count-at}
 use Rattle.tables.proofs.Parts.{basic-entry, tight-entry, fault-given, bounds-made}
 use borrow.Author.Needs.{needs}
+use Rattle.model.specs.Limits.{mostFlows}
 use Rattle.verdicts.proofs.bounds_at.Statement.{statement}
 use Rattle.verdicts.proofs.bounds_at.Tie as tie
 
 -- the flow's number is within the arrays
-within : (c : tie.Start) → c .args .k < 64
+within : (c : tie.Start) → c .args .k < mostFlows
 within c = omega (arith, count-at (c .args .t1) (accepted _ (c .pre .0)))
 
 mul-f : tie.Need-mul-f

@@ -1,5 +1,5 @@
 -- `bounds_of`: the record's refusal first, then 13, then the bounds. Assumes nothing beyond its `requires`.
-use mathlib.Core.Path.{_≡_, refl, sym, ap, _∙_}
+use mathlib.Core.Path.{_≡_, _∙_}
 use mathlib.Core.Bool.{true}
 use Rattle.model.specs.Refusals.{good}
 use Rattle.document.specs.Reader.{recordFault}

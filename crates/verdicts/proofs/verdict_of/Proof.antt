@@ -1,5 +1,5 @@
 -- `verdict_of`: the bounds of all flows are judged against the deadlines. Assumes nothing beyond its `requires`.
-use mathlib.Core.Path.{_≡_, refl, sym, ap, _∙_}
+use mathlib.Core.Path.{_≡_}
 use mathlib.Core.Bool.{true}
 use Rattle.model.specs.Refusals.{good}
 use Rattle.document.specs.Reader.{recordFault}

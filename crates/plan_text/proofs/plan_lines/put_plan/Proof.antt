@@ -8,7 +8,6 @@ use Rattle.document.specs.Program.{planOf, verdictLine, boundLines}
 use Rattle.laws.specs.Used.{used-count}
 use Rattle.puts.specs.Stores.{put-put, put-same, lastPlace}
 use Rattle.plan_text.proofs.Lines.{plan-le}
-use borrow.Author.Needs.{needs}
 use Rattle.plan_text.proofs.plan_lines.put_plan.Statement.{statement}
 use Rattle.plan_text.proofs.plan_lines.put_plan.Tie as tie
 
