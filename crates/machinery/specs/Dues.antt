@@ -3,8 +3,8 @@
 use mathlib.Core.Path.{_≡_, refl, sym, ap, _∙_, fun-ext}
 use mathlib.Core.Bool.{Bool, true, false, _&&_, _||_, cond, false≢true}
 use mathlib.Core.List.{List, map}
-use Prim.Native.Nat.{ℕ, _+_, _-_, _*_, _/_, _%_, _≤_, _<_}
-use native.Mathlib.Nat.{zero-div, div-add-mod', sub-eq-zero-of-le, zero-mul, add-zero, mul-le-mul}
+use Prim.Native.Nat.{ℕ, _+_, _-_, _*_, _/_, _≤_, _<_, min}
+use native.Mathlib.Nat.{div-add-mod', add-zero, mul-le-mul, min-eq-left}
 use native.Mathlib.Decide.{decLe}
 use native.Mathlib.Omega.{arith}
 use borrow.Author.Tests.{eqb-true, eqb-false, eq-eqb, ne-eqb, le-leb, leb-true, ltb-true}
@@ -13,7 +13,8 @@ use lib.ListN.{getD, take, length-take, length-map, List·getD-eq-default}
 use Rattle.model.specs.declared.kinds.Flow.{Flow}
 use Rattle.model.specs.declared.kinds.FlowSet.{FlowSet}
 use Rattle.model.specs.declared.kinds.State.{State}
-use Rattle.model.specs.Limits.{mostFlows, mostLinks}
+use Rattle.model.specs.Limits.{lastSlot, mostFlows, mostLinks}
+use Rattle.model.proofs.Releases.{release-first}
 use Rattle.model.specs.Refusals.{good}
 use Rattle.document.specs.Reader.{recordFault}
 use Rattle.model.specs.Sums.{bit}
@@ -28,19 +29,21 @@ use Rattle.laws.specs.Used.{used-flow, used-count}
 abbrev pub dueIn : ℕ → ℕ → ℕ → ℕ → ℕ
 dueIn a p d t = a + (t - a) / p * p + d
 
--- from the start on the release is the slot less the place in the period
-pub release-back : (a p t : ℕ) → a ≤ t → a + (t - a) / p * p ≡ t - (t - a) % p
-release-back a p t h = omega (arith, div-add-mod' (t - a) p)
-
--- before it the first release is what is next
-pub release-first : (a p t : ℕ) → t ≤ a → a + (t - a) / p * p ≡ a
-release-first a p t h = rw (sub-eq-zero-of-le h, zero-div, zero-mul, add-zero)
-
-pub due-back : (a p d t : ℕ) → a ≤ t → dueIn a p d t ≡ t - (t - a) % p + d
-due-back a p d t h = ap (λ (x : ℕ). x + d) (release-back a p t h)
-
+-- before the start the first packet's is what is next
 pub due-first : (a p d t : ℕ) → t ≤ a → dueIn a p d t ≡ a + d
 due-first a p d t h = ap (λ (x : ℕ). x + d) (release-first a p t h)
+
+-- a slot of the machine and a count of slots: their sum is far from the last number
+pub sum-fits : (t n : ℕ) → t ≤ lastSlot → n ≤ 65535 → min (t + n) 4294967295 ≡ t + n
+sum-fits t n h k = min-eq-left (omega (arith, h, k))
+
+-- and so is an absolute deadline
+pub due-fits : (a p d t : ℕ) → a ≤ 65535 → d ≤ 65535 → t ≤ lastSlot → min (dueIn a p d t) 4294967295 ≡ dueIn a p d t
+due-fits a p d t f g h = min-eq-left (omega (arith, div-add-mod' (t - a) p, f, g, h))
+
+-- what comes after a number is no smaller one
+pub next-above : (a b : ℕ) → b ≤ a → eqb (a + 1) b ≡ false
+next-above a b h = ne-eqb (a + 1) b (λ e. omega (arith, e, h))
 
 -- a release slot is one whose deadline is D away
 abbrev pub hadIn : ℕ → ℕ → ℕ → ℕ → ℕ

@@ -29,7 +29,8 @@ use Rattle.laws.specs.Accepted.{accepted}
 use Rattle.laws.specs.Used.{used-map, used-count, used-flow}
 use Rattle.laws.specs.Sums.{and-l, and-r}
 use Rattle.machinery.specs.Lists.{Through, through-all, getD-zeros, any-ext, filter-none}
-use Rattle.machinery.specs.Dues.{dueIn, hadIn, aheadBy, readyBy, Tables, Seen, had-is, ready-work, ready-if, release-back, used-none, work-le-64, accepted-count}
+use Rattle.model.proofs.Releases.{release-back}
+use Rattle.machinery.specs.Dues.{dueIn, hadIn, aheadBy, readyBy, Tables, Seen, had-is, ready-work, ready-if, used-none, work-le-64, accepted-count}
 use Rattle.machinery.specs.Order.{Each, each-at, each-wide, lined-each, ordered-each, ordered-in, keep, keep-all}
 use Rattle.machinery.specs.Choice.{Choice, linkBy, clashOf, orderedBy, placed-by, place-ext, placed-each, placed-ready, delivered-le}
 use Rattle.machinery.specs.Links.{Routes, linkIn, link-is, link-in-route}

@@ -1,14 +1,12 @@
 -- `dues` gives each flow's deadline in turn. Assumes nothing.
-use Rattle.machinery.specs.Dues.{dueIn}
+use Rattle.machinery.specs.Dues.{dueIn, due-fits}
 use Rattle.machinery.specs.Lists.{Through, through-none, through-next}
 use lib.ListN.{getD}
 use native.Mathlib.Omega.{arith}
-use native.Mathlib.Nat.{min-eq-left, div-add-mod'}
 use Prim.{tt}
-use Prim.Native.Nat.{ℕ, _-_, _≤_, min}
+use Prim.Native.Nat.{_-_, _≤_}
 use mathlib.Core.Path.{_≡_, _∙_}
 use borrow.Author.Needs.{needs}
-use Rattle.model.specs.Limits.{lastSlot}
 use Rattle.table.proofs.dues.Statement.{statement}
 use Rattle.table.proofs.dues.Tie as tie
 
@@ -17,10 +15,6 @@ Inv-loop count t start period deadline due₀ k₀ due k = (k ≤ count) × Thro
 
 abbrev μ-loop : tie.MeasureT-loop
 μ-loop count t start period deadline due₀ k₀ due k = count - k
-
--- an absolute deadline is far from the last number
-fits : (a p d t : ℕ) → a ≤ 65535 → d ≤ 65535 → t ≤ lastSlot → min (dueIn a p d t) 4294967295 ≡ dueIn a p d t
-fits a p d t f g h = min-eq-left (omega (arith, div-add-mod' (t - a) p, f, g, h))
 
 loop-holds : tie.Need-loop-holds Inv-loop μ-loop
 loop-holds c = (search needs, through-none _ _)
@@ -63,7 +57,7 @@ loop-again c =
     let v = c .before .before .before .before .before .loop in
     let p = c .before .before .before .before .before .before .pre in
     let h = p .1 (v .k) (search needs) in
-    (search needs, through-next _ (v .k) _ _ _ (omega arith) (c .due-of .ensures ∙ fits _ _ _ _ (h .0) (h .1) (p .0 .1)) (v .inv .1))
+    (search needs, through-next _ (v .k) _ _ _ (omega arith) (c .due-of .ensures ∙ due-fits _ _ _ _ (h .0) (h .1) (p .0 .1)) (v .inv .1))
 
 returns : tie.Need-returns Inv-loop μ-loop
 returns c =

@@ -1,13 +1,13 @@
 -- `restart` gives what each flow's packet has had in turn. Assumes nothing.
-use Rattle.machinery.specs.Dues.{hadIn}
+use Rattle.machinery.specs.Dues.{hadIn, sum-fits}
 use Rattle.machinery.specs.Lists.{Through, through-none, through-next}
 use lib.ListN.{getD}
-use native.Mathlib.Nat.{le-refl, min-eq-left}
+use native.Mathlib.Nat.{le-refl}
 use native.Mathlib.Omega.{arith}
 use Prim.{tt}
 use mathlib.Core.Bool.{cond}
 use lib.Dec.{eqb}
-use Prim.Native.Nat.{ℕ, _+_, _-_, _≤_, min}
+use Prim.Native.Nat.{ℕ, _-_, _≤_}
 use mathlib.Core.Path.{_≡_, ap, _∙_}
 use borrow.Author.Needs.{needs}
 use Rattle.table.proofs.restart.Statement.{statement}
@@ -56,7 +56,7 @@ loop-again c =
     let a = b .args in
     let d = getD (a .deadline .now) (v .k) 0 in
     let w = b .pre .1 (v .k) (search needs) in
-    let m : min (a .t + d) 4294967295 ≡ a .t + d = min-eq-left (omega (arith, w, b .pre .0 .1)) in
+    let m = sum-fits (a .t) d (b .pre .0 .1) w in
     let f = ap (λ (x : ℕ). cond (eqb x (getD (a .due .now) (v .k) 0)) 0 (getD (v .sent) (v .k) 0)) m in
     let e = c .had-of .ensures ∙ f ∙ ap (λ (n : ℕ). hadIn (getD (a .due .now) (v .k) 0) d (a .t) n) (v .inv .1 .above (v .k) (le-refl (v .k))) in
     (search needs, through-next _ (v .k) _ _ _ (omega arith) e (v .inv .1))

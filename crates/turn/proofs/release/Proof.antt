@@ -1,14 +1,13 @@
 -- `release` takes the flows in turn: one whose next release is t gets its new numbers. Assumes nothing.
+use Rattle.machinery.specs.Dues.{sum-fits}
 use Rattle.machinery.specs.Lists.{through-none}
 use Rattle.machinery.specs.Turns.{Released, released-now, released-later, soon-set, soon-stay}
 use lib.ListN.{getD}
 use native.Mathlib.Omega.{arith}
-use native.Mathlib.Nat.{min-eq-left}
 use Prim.{tt}
-use Prim.Native.Nat.{ℕ, _+_, _-_, _≤_, _<_, min}
+use Prim.Native.Nat.{ℕ, _-_, _≤_, _<_}
 use mathlib.Core.Path.{_≡_, _∙_}
 use borrow.Author.Needs.{needs}
-use Rattle.model.specs.Limits.{lastSlot}
 use Rattle.turn.proofs.release.Statement.{statement}
 use Rattle.turn.proofs.release.Tie as tie
 
@@ -18,10 +17,6 @@ Inv-loop count t period deadline due₀ next₀ sent₀ soonest₀ k₀ due next
 
 abbrev μ-loop : tie.MeasureT-loop
 μ-loop count t period deadline due₀ next₀ sent₀ soonest₀ k₀ due next sent soonest k = count - k
-
--- a slot of the machine and a count of slots: their sum is far from the last number
-no-cut : (t n : ℕ) → t ≤ lastSlot → n ≤ 65535 → min (t + n) 4294967295 ≡ t + n
-no-cut t n h k = min-eq-left (omega (arith, h, k))
 
 loop-holds : tie.Need-loop-holds Inv-loop μ-loop
 loop-holds c = (search needs, record { dues = through-none _ _; nexts = through-none _ _; sents = through-none _ _ }, λ j h. absurd (omega arith))
@@ -81,8 +76,8 @@ loop-again c =
     let l = c .before .before .before .before .before .before .before .loop-test .taken in
     let a = c .before .before .before .before .before .before .before .before .before .args in
     let w = c .before .before .before .before .before .before .before .before .before .pre .1 (v .k) in
-    let d = c .before .before .before .after .ensures ∙ no-cut _ _ (p .1) (w .1) in
-    let n = c .before .after2 .ensures ∙ no-cut _ _ (p .1) (w .0) in
+    let d = c .before .before .before .after .ensures ∙ sum-fits _ _ (p .1) (w .1) in
+    let n = c .before .after2 .ensures ∙ sum-fits _ _ (p .1) (w .0) in
     let r = v .inv .1 in (
       omega (arith, l),
       rw (d, n) (released-now (v .k) (a .t) (a .period .now) (a .deadline .now) _ _ _ _ _ _ r (omega (arith, l, p)) (omega (arith, l, p)) (omega (arith, l, p)) (c .before .before .before .before .before .if1 .taken)),

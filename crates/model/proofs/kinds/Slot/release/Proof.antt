@@ -1,30 +1,21 @@
 -- `Slot::release`: from the first on the release is the slot less its place in the period. Assumes nothing.
-use native.Mathlib.Nat.{zero-div, sub-eq-zero-of-le, zero-mul, mul-zero, add-zero, div-add-mod', mod-le}
+use Rattle.model.proofs.Releases.{release-back, release-first, release-only}
+use native.Mathlib.Nat.{mod-le}
 use native.Mathlib.Omega.{arith}
-use Prim.Native.Nat.{ℕ, _+_, _-_, _*_, _/_, _%_, _≤_}
-use mathlib.Core.Path.{_≡_}
+use Prim.Native.Nat.{_-_}
+use mathlib.Core.Path.{sym}
 use borrow.Author.Needs.{needs}
 use Rattle.model.proofs.kinds.Slot.release.Statement.{statement}
 use Rattle.model.proofs.kinds.Slot.release.Tie as tie
 
--- before the first, and with a period of no slots, it is the first
-first-early : (a p t : ℕ) → t ≤ a → a ≡ a + (t - a) / p * p
-first-early a p t h = rw (sub-eq-zero-of-le h, zero-div, zero-mul, add-zero)
-
-first-only : (a p t : ℕ) → p ≡ 0 → a ≡ a + (t - a) / p * p
-first-only a p t e = rw (e, mul-zero, add-zero)
-
-release-back : (a p t : ℕ) → a ≤ t → t - (t - a) % p ≡ a + (t - a) / p * p
-release-back a p t h = omega (arith, div-add-mod' (t - a) p)
-
 returns : tie.Need-returns
-returns c = first-early _ _ _ (c .if1 .taken)
+returns c = sym (release-first _ _ _ (c .if1 .taken))
 
 cast-n : tie.Need-cast-n
 cast-n c = search needs
 
 returns-2 : tie.Need-returns-2
-returns-2 c = first-only _ _ _ (c .if2 .taken)
+returns-2 c = sym (release-only _ _ _ (c .if2 .taken))
 
 sub-t6 : tie.Need-sub-t6
 sub-t6 c = search needs
@@ -38,7 +29,7 @@ sub-t8 c =
     omega (arith, mod-le (a .self .0 - a .first .0) (a .period .0))
 
 returns-3 : tie.Need-returns-3
-returns-3 c = release-back _ _ _ (search needs)
+returns-3 c = sym (release-back _ _ _ (search needs))
 
 pub release-spec : {M : Type 1} → statement M
 release-spec = tie.close (tie.spec returns cast-n returns-2 sub-t6 rem-t7 sub-t8 returns-3)
