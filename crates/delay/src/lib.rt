@@ -1,35 +1,45 @@
 // The two delay tests of document 01: both bounds of every flow, the verdicts of a set, and one flow's bounds. The shares of each pair of
 // flows, as far as no round changes them, are tables that are made once.
-ghost use mathlib.Core.Path.{_≡_};
-ghost use Prim.Native.Nat.{ℕ, _≤_, _<_};
+ghost use Prim.Native.Nat.{_<_, _≤_, ℕ};
 ghost use lib.ListN.{getD};
+ghost use Rattle.delay.specs.WholeRows.{RowsDone, SmallRow};
+ghost use Rattle.model.specs.Limits.{mostFlows};
+ghost use mathlib.Core.Path.{_≡_};
 ghost use Rattle.model.specs.Sets.{used};
 ghost use Rattle.laws.specs.Accepted.{Accepted};
-ghost use Rattle.tables.specs.Tables.{tablesOf, blankTables, Tabled};
-ghost use Rattle.tables.specs.Rows.{SmallRow, RowsDone};
+ghost use Rattle.delay.specs.Tables.{Tabled, blankTables, tablesOf};
+ghost use Rattle.delay.specs.Steps.{JudgedAs};
 ghost use mathlib.Core.Bool.{true};
 ghost use Rattle.model.specs.Refusals.{good, noFault};
 ghost use Rattle.document.specs.Reader.{recordFault};
-ghost use Rattle.tables.specs.Answers.{AllBoundsOf};
-ghost use Rattle.tables.specs.Steps.{JudgedAs};
-ghost use Rattle.document.specs.Delay.{verdictOf, boundsOf};
-ghost use Rattle.model.specs.Limits.{mostFlows};
+ghost use Rattle.delay.specs.AllBounds.{AllBoundsOf};
+ghost use Rattle.document.specs.Delay.{boundsOf, verdictOf};
+
+mod conflicts;
+mod equation;
+mod index;
+mod rounds;
+mod shares;
+mod verdicts;
+
 use model::Bounds;
 use model::Fault;
 use model::Flow;
 use model::FlowSet;
 use model::Refusal;
 use model::Verdict;
-use tables::AllBounds;
+pub use verdicts::AllBounds;
+pub use verdicts::bounds_of;
+pub use verdicts::verdict_of;
 
 // r of every pair, and the sums of q·S and q·C for every flow.
 fn rows<'a>(
     n: usize,
     period: &'a [u16; Flow::MOST],
     deadline: &'a [u16; Flow::MOST],
-    conflict: &'a [u16; tables::PAIRS],
+    conflict: &'a [u16; conflicts::PAIRS],
     work: &'a [u16; Flow::MOST],
-    remainder: &mut [u16; tables::PAIRS],
+    remainder: &mut [u16; conflicts::PAIRS],
     whole_conflict: &mut [u32; Flow::MOST],
     whole_work: &mut [u32; Flow::MOST],
 )
@@ -40,7 +50,7 @@ fn rows<'a>(
     let mut q = [0u16; Flow::MOST];
     let mut k: usize = 0;
     while k < n {
-        let sums = equation::row(k, n, deadline[k], period, conflict, work, &mut q, remainder);
+        let sums = shares::row(k, n, deadline[k], period, conflict, work, &mut q, remainder);
         whole_conflict[k] = sums.conflict;
         whole_work[k] = sums.work;
         k += 1;
@@ -50,8 +60,8 @@ fn rows<'a>(
 // The tables of an accepted set, in arrays that are lent blank.
 fn tabulate(
     s: FlowSet,
-    conflict: &mut [u16; tables::PAIRS],
-    remainder: &mut [u16; tables::PAIRS],
+    conflict: &mut [u16; conflicts::PAIRS],
+    remainder: &mut [u16; conflicts::PAIRS],
     work: &mut [u16; Flow::MOST],
     deadline: &mut [u16; Flow::MOST],
     whole_conflict: &mut [u32; Flow::MOST],
@@ -62,8 +72,8 @@ fn tabulate(
     ensures { λ r. ⌜ Tabled (used s) (tablesOf (now (conflict .exit)) (now (remainder .exit)) (now (work .exit)) (now (deadline .exit)) (now («whole_conflict» .exit)) (now («whole_work» .exit))) ⌝ }
 {
     let mut period = [0u16; Flow::MOST];
-    pairs::numbers(s, &mut period, deadline, work);
-    meetings::conflicts(s, conflict);
+    shares::numbers(s, &mut period, deadline, work);
+    conflicts::conflicts(s, conflict);
     rows(
         s.count as usize,
         &period,
@@ -86,8 +96,8 @@ struct Judged {
 // The same from the tables.
 fn judge_by<'a>(
     s: FlowSet,
-    conflict: &'a [u16; tables::PAIRS],
-    remainder: &'a [u16; tables::PAIRS],
+    conflict: &'a [u16; conflicts::PAIRS],
+    remainder: &'a [u16; conflicts::PAIRS],
     work: &'a [u16; Flow::MOST],
     deadline: &'a [u16; Flow::MOST],
     whole_conflict: &'a [u32; Flow::MOST],
@@ -141,8 +151,8 @@ fn judge(s: FlowSet) -> Judged
     requires { ⌜ good (recordFault (used s) .refusal) ≡ true ⌝ }
     ensures { λ r. ⌜ JudgedAs (used s) (r .basic) (r .tightened) (r .rounds) ⌝ }
 {
-    let mut conflict = [0u16; tables::PAIRS];
-    let mut remainder = [0u16; tables::PAIRS];
+    let mut conflict = [0u16; conflicts::PAIRS];
+    let mut remainder = [0u16; conflicts::PAIRS];
     let mut work = [0u16; Flow::MOST];
     let mut deadline = [0u16; Flow::MOST];
     let mut whole_conflict = [0u32; Flow::MOST];

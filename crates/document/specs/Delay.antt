@@ -134,10 +134,17 @@ tightBound s k = valueAt s (reached s .list) k
 unfoldable pub admits : FlowSet → (ℕ → ℕ) → Bool
 admits s bound = allTo (λ k. leb (bound k) (deadline s k)) (s .count)
 
--- the verdicts of a set; a refused verdict is zeros and "no"
+-- a refused bound or verdict gives zeros and "no"
+abbrev pub refusedVerdict : Fault → Verdict
+refusedVerdict f = record { fault = f; basic = false; tightened = false; rounds = 0 }
+
+abbrev pub refusedBounds : Fault → Bounds
+refusedBounds f = record { fault = f; work = 0; basic = 0; tightened = 0; deadline = record { 0 = 0 }; margin = pos 0 }
+
+-- the verdicts of a set
 abbrev pub verdictIf : FlowSet → Bool → Verdict
 verdictIf s true = record { fault = noFault; basic = admits s (basicBound s); tightened = admits s (tightBound s); rounds = reached s .rounds }
-verdictIf s false = record { fault = recordFault s; basic = false; tightened = false; rounds = 0 }
+verdictIf s false = refusedVerdict (recordFault s)
 
 unfoldable pub verdictOf : FlowSet → Verdict
 verdictOf s = verdictIf s (good (recordFault s .refusal))
@@ -157,7 +164,7 @@ boundsIf s k true =
       deadline = flowAt s k .deadline;
       margin = pos (deadline s k) -ℤ pos (tightBound s k);
     }
-boundsIf s k false = record { fault = boundsFault s k; work = 0; basic = 0; tightened = 0; deadline = record { 0 = 0 }; margin = pos 0 }
+boundsIf s k false = refusedBounds (boundsFault s k)
 
 unfoldable pub boundsOf : FlowSet → ℕ → Bounds
 boundsOf s k = boundsIf s k (good (boundsFault s k .refusal))

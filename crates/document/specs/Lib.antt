@@ -3,4 +3,5 @@ pub mod Reader
 pub mod Delay
 pub mod Machine
 pub mod Program
+pub mod ForC
 pub mod Table

@@ -1,4 +1,5 @@
--- Document 01, "The slot machine", rule by rule. A set here is one without the entries that don't count (`used`); t is a slot,
+-- Document 01, "The slot machine", rule by rule, for any order of priority in rule 4; document 01's own comes last, under the names that
+-- the rest of the planner uses. A set here is one without the entries that don't count (`used`); t is a slot,
 -- n the count that the state holds for a flow.
 use mathlib.Core.{Bool.{Bool, true, false, not, _&&_, _||_, cond}, List.{List, [], _∷_, _++_}}
 use Prim.Native.Nat.{ℕ, zero, suc, _+_, _-_, _*_, _/_, _%_, _^_}
@@ -61,8 +62,12 @@ dueAt s st k = deadlineAt (flowAt s k) (st .slot .0)
 abbrev pub linkAt : FlowSet → State → ℕ → List ℕ
 linkAt s st k = linkOf (flowAt s k) (hadAt s st k)
 
--- 4. the order: earlier absolute deadline, then lower flow number
-abbrev pub ahead : FlowSet → State → ℕ → ℕ → Bool
+-- 4. an order of priority says of two flows, in a state of a set, whether the first one's packet is taken before the other's
+abbrev pub Priority : Type 0
+Priority = FlowSet → State → ℕ → ℕ → Bool
+
+-- document 01's order: earlier absolute deadline, then lower flow number
+abbrev pub ahead : Priority
 ahead s st k l = ltb (dueAt s st k) (dueAt s st l) || (eqb (dueAt s st k) (dueAt s st l) && ltb k l)
 
 -- k put before the first that it goes ahead of
@@ -85,8 +90,8 @@ abbrev pub clashAt : FlowSet → State → ℕ → ℕ → Bool
 clashAt s st k l = meet (linkAt s st k) (linkAt s st l)
 
 -- the flows whose packets are placed in the state's slot, in the order in which they were
-unfoldable pub placedAt : FlowSet → State → List ℕ
-placedAt s st = place (ways s) (clashAt s st) [] (ordered (ahead s st) (readyAt s st) (s .count))
+unfoldable pub placedWith : Priority → FlowSet → State → List ℕ
+placedWith first s st = place (ways s) (clashAt s st) [] (ordered (first s st) (readyAt s st) (s .count))
 
 -- 5. the map's channels in rising order
 unfoldable pub channelsTo : ℕ → ℕ → List ℕ
@@ -118,16 +123,16 @@ unfoldable pub sendsFrom : FlowSet → State → ℕ → List ℕ → List Send
 sendsFrom s st o [] = []
 sendsFrom s st o (k ∷ ks) = sendOf s st k o ∷ sendsFrom s st (o + 1) ks
 
-abbrev pub sendsAt : FlowSet → State → List Send
-sendsAt s st = sendsFrom s st 0 (placedAt s st)
+abbrev pub sendsWith : Priority → FlowSet → State → List Send
+sendsWith first s st = sendsFrom s st 0 (placedWith first s st)
 
 -- the next count of flow k
-unfoldable pub countAfter : FlowSet → State → ℕ → ℕ
-countAfter s st k = nextCount (flowAt s k) (st .slot .0) (countAt st k) (memb k (placedAt s st))
+unfoldable pub countWith : Priority → FlowSet → State → ℕ → ℕ
+countWith first s st k = nextCount (flowAt s k) (st .slot .0) (countAt st k) (memb k (placedWith first s st))
 
 -- 6. delivered in the slot of its transmission C − 1
-unfoldable pub deliveredAt : FlowSet → State → ℕ → Bool
-deliveredAt s st k = memb k (placedAt s st) && eqb (hadAt s st k + 1) (workAt s k)
+unfoldable pub deliveredWith : Priority → FlowSet → State → ℕ → Bool
+deliveredWith first s st k = memb k (placedWith first s st) && eqb (hadAt s st k + 1) (workAt s k)
 
 -- its delay is that slot − release + 1
 unfoldable pub deliveriesOf : FlowSet → State → List ℕ → List Delivery
@@ -136,16 +141,16 @@ deliveriesOf s st (k ∷ ks) =
     record { flow = k; delay = record { 0 = st .slot .0 - releaseAt (flowAt s k) (st .slot .0) + 1 } } ∷ deliveriesOf s st ks
 
 -- still short after the last slot before its absolute deadline: dropped there
-unfoldable pub droppedAt : FlowSet → State → ℕ → Bool
-droppedAt s st k =
-    released (flowAt s k) (st .slot .0) && eqb (st .slot .0 + 1) (dueAt s st k) && ltb (countAfter s st k) (workAt s k)
+unfoldable pub droppedWith : Priority → FlowSet → State → ℕ → Bool
+droppedWith first s st k =
+    released (flowAt s k) (st .slot .0) && eqb (st .slot .0 + 1) (dueAt s st k) && ltb (countWith first s st k) (workAt s k)
 
 -- t + 1, and each flow's next count; beyond the last flow they stay 0
-unfoldable pub nextState : FlowSet → State → State
-nextState s st =
+unfoldable pub nextWith : Priority → FlowSet → State → State
+nextWith first s st =
     record {
       slot = record { 0 = st .slot .0 + 1 };
-      sent = listTo (λ k. cond (ltb k (s .count)) (countAfter s st k) 0) mostFlows;
+      sent = listTo (λ k. cond (ltb k (s .count)) (countWith first s st k) 0) mostFlows;
     }
 
 -- 12: a slot above the last, a count above its flow's C, or one not 0 beyond the last flow
@@ -184,22 +189,50 @@ stepped f next ss ds xs =
     }
 
 -- a refused step returns the state it was given and an empty slot
-abbrev pub stepIf : FlowSet → State → Bool → Stepped
-stepIf s st true =
-    stepped noFault (nextState s st) (sendsAt s st)
-    (deliveriesOf s st (filterTo (deliveredAt s st) (s .count)))
-    (filterTo (droppedAt s st) (s .count))
-stepIf s st false = stepped (stepFault s st) st [] [] []
+abbrev pub stepIfWith : Priority → FlowSet → State → Bool → Stepped
+stepIfWith first s st true =
+    stepped noFault (nextWith first s st) (sendsWith first s st)
+    (deliveriesOf s st (filterTo (deliveredWith first s st) (s .count)))
+    (filterTo (droppedWith first s st) (s .count))
+stepIfWith first s st false = stepped (stepFault s st) st [] [] []
 
 -- one step of the machine
-unfoldable pub stepOf : FlowSet → State → Stepped
-stepOf s st = stepIf s st (good (stepFault s st .refusal))
+unfoldable pub stepWith : Priority → FlowSet → State → Stepped
+stepWith first s st = stepIfWith first s st (good (stepFault s st .refusal))
 
 -- a run is so many steps from the fresh state, as far as the last slot, where a step changes nothing
 abbrev pub runMore : Ran → Stepped → Ran
 runMore r a =
     record { fault = r .fault; last = a .next; delivered = r .delivered + a .deliveries; dropped = r .dropped + a .drops }
 
-unfoldable pub runOf : FlowSet → ℕ → Ran
-runOf s zero = record { fault = recordFault s; last = freshState; delivered = 0; dropped = 0 }
-runOf s (suc n) = runMore (runOf s n) (stepOf s (runOf s n .last))
+unfoldable pub runWith : Priority → FlowSet → ℕ → Ran
+runWith first s zero = record { fault = recordFault s; last = freshState; delivered = 0; dropped = 0 }
+runWith first s (suc n) = runMore (runWith first s n) (stepWith first s (runWith first s n .last))
+
+-- document 01's machine: all of the above with its own order
+abbrev pub placedAt : FlowSet → State → List ℕ
+placedAt = placedWith ahead
+
+abbrev pub sendsAt : FlowSet → State → List Send
+sendsAt = sendsWith ahead
+
+abbrev pub countAfter : FlowSet → State → ℕ → ℕ
+countAfter = countWith ahead
+
+abbrev pub deliveredAt : FlowSet → State → ℕ → Bool
+deliveredAt = deliveredWith ahead
+
+abbrev pub droppedAt : FlowSet → State → ℕ → Bool
+droppedAt = droppedWith ahead
+
+abbrev pub nextState : FlowSet → State → State
+nextState = nextWith ahead
+
+abbrev pub stepIf : FlowSet → State → Bool → Stepped
+stepIf = stepIfWith ahead
+
+abbrev pub stepOf : FlowSet → State → Stepped
+stepOf = stepWith ahead
+
+abbrev pub runOf : FlowSet → ℕ → Ran
+runOf = runWith ahead

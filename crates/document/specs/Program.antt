@@ -4,9 +4,9 @@ use Prim.Native.Nat.{ℕ, zero, suc, _+_, _*_, _/_, _%_}
 use lib.{Dec.{leb, ltb, eqb}, IntN.{ℤ, pos, negsuc}, ListN.{length, getD, take, drop}}
 use Rattle.model.specs.declared.kinds.{FlowSet.{FlowSet}, State.{State}}
 use Rattle.model.specs.declared.answers.{Fault.{Fault}, Reading.{Reading}, Refusal.the-variants.{NoRoom, BadState}, Send.{Send}}
-use Rattle.model.specs.declared.answers.{Verdict.{Verdict}, Bounds.{Bounds}}
+use Rattle.model.specs.declared.answers.{Verdict.{Verdict}, Bounds.{Bounds}, Written.{Written}}
 use Rattle.model.specs.{Limits.{mostFlows}, Refusals.{good, refusalNumber, faultAt, noFault, orElse}, Sums.{bit}, Sets.{used}}
-use Rattle.document.specs.{Text.{decimal, decimals, lineOf, tabbed}, Reader.{readText}, Delay.{verdictOf, boundsOf}}
+use Rattle.document.specs.{Text.{decimal, decimals, lineOf, tabbed}, Reader.{readText, refusedWriting, wrote}, Delay.{verdictOf, boundsOf}}
 use Rattle.document.specs.Machine.{sendsAt, nextState, stepFault, runOf}
 
 -- a state is 68 bytes for C: the slot in four bytes, lowest first, then one count byte for each of 64 flows
@@ -110,3 +110,11 @@ planText input =
       | true ↦ refusedLine (faultAt NoRoom 0)
       | false ↦ planIf (readText input) (good (readText input .fault .refusal))
     ]
+
+-- the same into a lent buffer: the text at its start, and further bytes stay; a buffer that is too short is left alone, with refusal 10
+unfoldable pub planAnswer : List ℕ → ℕ → Written
+planAnswer input room = cond (ltb room (length (planText input))) (refusedWriting (faultAt NoRoom 0)) (wrote (length (planText input)))
+
+unfoldable pub planInto : List ℕ → List ℕ → List ℕ
+planInto input buffer =
+    cond (ltb (length buffer) (length (planText input))) buffer (planText input ++ drop (length (planText input)) buffer)

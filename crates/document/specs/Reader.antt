@@ -116,6 +116,13 @@ flowLines (f ∷ fs) = lineOf flowWord (flowNumbers f) ++ flowLines fs
 unfoldable pub textOf : FlowSet → List ℕ
 textOf s = lineOf setWord (s .map .0 ∷ []) ++ flowLines (s .flows)
 
+-- so many bytes stand in a lent buffer; a refusal writes none
+abbrev pub wrote : ℕ → Written
+wrote n = record { fault = noFault; length = n }
+
+abbrev pub refusedWriting : Fault → Written
+refusedWriting f = record { fault = f; length = 0 }
+
 -- what the writer may not write, with a buffer of this length: the record's fault, then 10
 unfoldable pub writeFault : FlowSet → ℕ → Fault
 writeFault s room = orElse (recordFault s) (cond (ltb room (length (textOf s))) (faultAt NoRoom 0) noFault)

@@ -1,17 +1,19 @@
--- Document 01, "Sets on either side of a line": P1 to P11, with all that the document says of each, in one table under one theorem.
+-- Document 01, "Sets on either side of a line": P1 to P11, with all that the document says of each, in one table under one theorem; and
+-- rows of our own, for what no P says: what C is answered.
 -- The sets are their texts, run through the reader's definition; the checker computes the rest.
 use mathlib.Core.{Bool.{Bool, true, false, not, _&&_, cond}, List.{List, [], _∷_, _++_}}
 use Prim.Native.{Char.{code}, Nat.{ℕ, zero, suc, _+_}}
 use Prim.Native.String as string
 use lib.{Count.{ones, onesIn}, Dec.{eqb, T}, IntN.{ℤ, pos, negsuc}, ListN.{getD}}
 use Rattle.model.specs.declared.kinds.FlowSet.{FlowSet}
-use Rattle.model.specs.declared.answers.{Reading.{Reading}, Send.{Send}}
+use Rattle.model.specs.declared.answers.{Reading.{Reading}, Send.{Send}, VerdictAnswer.{VerdictAnswer}, BoundsAnswer.{BoundsAnswer}}
 use Rattle.model.specs.{Refusals.{refusalNumber}, Sums.{sumTo, anyTo, allTo}, Sets.{used, anyOf, meet, listTo, filterTo}}
 use Rattle.document.specs.Text.{same, lines, ended, fields, allDigits, valueFrom, isNumber, allNumbers, valuesOf, wellFormed, numbersOf, decimalIn, decimal, tabbed, decimals, lineOf}
 use Rattle.document.specs.Reader.{twice, flowFault, flowsFault, recordFault, flowOf, withFlow, firstLineFault, flowLineFault, readFlows, setOf, readLines, readText, flowLines, textOf}
 use Rattle.document.specs.Delay.{conflictWork, share, overOthers, boundWith, basicBound, valueAt, deadlines, lowered, roundTo, roundsIn, reached, tightBound, admits, verdictOf, boundsFault, boundsOf}
-use Rattle.document.specs.Machine.{ready, nextCount, insert, ordered, place, placedAt, channelsTo, radioChannel, sendOf, sendsFrom, sendsAt, countAfter, deliveredAt, deliveriesOf, droppedAt, nextState, badState, stepFault, stepOf, runOf}
+use Rattle.document.specs.Machine.{ready, nextCount, insert, ordered, place, channelsTo, radioChannel, sendOf, sendsFrom, sendsAt, deliveriesOf, droppedAt, badState, stepFault, runOf, countWith, deliveredWith, droppedWith, nextWith, placedWith, runWith, stepWith}
 use Rattle.document.specs.Program.{sendNumbers, sendLines, signed, boundLines, runLines, planOf, planText}
+use Rattle.document.specs.ForC.{verdictOfReading, boundsOfReading, verdictForC, boundsForC}
 
 -- the bytes of a quoted text
 unfoldable pub bytes : string.String → List ℕ
@@ -31,6 +33,8 @@ pub data Claim : Type 0 where
   flowsIn : ℕ → List ℕ → Claim  -- a slot of the run, and the flows that it sends
   drops : ℕ → List ℕ → Claim  -- a slot of the run, and the flows that it drops
   plan : string.String → Claim  -- what the plan program prints
+  verdictC : List ℕ → Claim  -- what C is answered: refusal, line, basic, tightened, rounds
+  boundsC : ℕ → List ℕ → ℤ → Claim  -- flow; refusal, line, C, basic, tightened, deadline; margin
 
 sameRows : List (List ℕ) → List (List ℕ) → Bool
 sameRows [] [] = true
@@ -50,6 +54,12 @@ rowsTo : FlowSet → ℕ → List (List ℕ)
 rowsTo s zero = []
 rowsTo s (suc n) = rowsTo s n ++ rows (sendsAt s (runOf s n .last))
 
+verdictRow : VerdictAnswer → List ℕ
+verdictRow v = v .refusal ∷ v .line ∷ v .basic ∷ v .tightened ∷ v .rounds ∷ []
+
+boundsRow : BoundsAnswer → List ℕ
+boundsRow b = b .refusal ∷ b .line ∷ b .work ∷ b .basic ∷ b .tightened ∷ b .deadline ∷ []
+
 same? : Bool → Bool → Bool
 same? true b = b
 same? false b = not b
@@ -66,6 +76,8 @@ holds text r s (sends n xs) = sameRows (rowsTo s n) xs
 holds text r s (flowsIn t ks) = same (flowsOf (sendsAt s (runOf s t .last))) ks
 holds text r s (drops t ks) = same (filterTo (droppedAt s (runOf s t .last)) (s .count)) ks
 holds text r s (plan p) = same (planText text) (bytes p)
+holds text r s (verdictC ns) = same (verdictRow (verdictForC text)) ns
+holds text r s (boundsC k ns m) = same (boundsRow (boundsForC text k)) ns && same (signed (boundsForC text k .margin)) (signed m)
 
 allHold : List ℕ → Reading → List Claim → Bool
 allHold text r [] = true
@@ -189,8 +201,19 @@ points =
     (refused 8 2
     ∷ []
     )
+    -- ours: P3 and P10 as C is answered
+    ∷ point "set\t15\nflow\t10\t1\t0\t1\t1\t2\nflow\t10\t1\t0\t1\t3\t4\nflow\t10\t1\t0\t1\t5\t6\nflow\t10\t1\t0\t1\t7\t8\nflow\t10\t1\t0\t1\t9\t10\n"
+    (verdictC (0 ∷ 0 ∷ 0 ∷ 0 ∷ 1 ∷ [])
+    ∷ boundsC 4 (0 ∷ 0 ∷ 1 ∷ 2 ∷ 2 ∷ 1 ∷ []) (negsuc 0)
+    ∷ boundsC 5 (13 ∷ 0 ∷ 0 ∷ 0 ∷ 0 ∷ 0 ∷ []) (pos 0)
+    ∷ []
+    )
+    ∷ point "set\t0\n"
+    (verdictC (2 ∷ 1 ∷ 0 ∷ 0 ∷ 0 ∷ [])
+    ∷ []
+    )
     ∷ []
 
 pub every-point : T (every points)
-unfolding every points point allHold holds same? rowsTo flowsOf rows sameRows bytes same lines ended fields allDigits valueFrom isNumber allNumbers valuesOf wellFormed numbersOf decimalIn decimal tabbed decimals lineOf twice flowFault flowsFault recordFault flowOf withFlow firstLineFault flowLineFault readFlows setOf readLines readText flowLines textOf conflictWork share overOthers boundWith basicBound valueAt deadlines lowered roundTo roundsIn reached tightBound admits verdictOf boundsFault boundsOf ready nextCount insert ordered place placedAt channelsTo radioChannel sendOf sendsFrom countAfter deliveredAt deliveriesOf droppedAt nextState badState stepFault stepOf runOf sendLines boundLines runLines planOf planText sumTo anyTo allTo used anyOf meet listTo filterTo ones onesIn
+unfolding every points point allHold holds same? rowsTo flowsOf rows sameRows bytes same lines ended fields allDigits valueFrom isNumber allNumbers valuesOf wellFormed numbersOf decimalIn decimal tabbed decimals lineOf twice flowFault flowsFault recordFault flowOf withFlow firstLineFault flowLineFault readFlows setOf readLines readText flowLines textOf conflictWork share overOthers boundWith basicBound valueAt deadlines lowered roundTo roundsIn reached tightBound admits verdictOf boundsFault boundsOf ready nextCount insert ordered place placedWith channelsTo radioChannel sendOf sendsFrom countWith deliveredWith deliveriesOf droppedWith nextWith badState stepFault stepWith runWith sendLines boundLines runLines planOf planText verdictOfReading boundsOfReading verdictForC boundsForC verdictRow boundsRow sumTo anyTo allTo used anyOf meet listTo filterTo ones onesIn
 every-point = tt

@@ -4,9 +4,6 @@ pub mod Accepted
 pub mod Values
 pub mod Rounds
 pub mod Largest
-pub mod Promises
-pub mod Waiting
-pub mod Load
-pub mod Within
-pub mod Members
-pub mod Choice
+pub mod BothTests
+pub mod Codes
+pub mod Nodes

@@ -2,3 +2,4 @@ pub mod Limits
 pub mod Refusals
 pub mod Sums
 pub mod Sets
+pub mod Releases

@@ -1,6 +1,9 @@
 // The answers that the planner's functions give.
+ghost use mathlib.Core.Bool.{not};
 ghost use mathlib.Core.Path.{_≡_};
-ghost use Rattle.model.specs.Refusals.{refusalNumber};
+ghost use Prim.Native.Nat.{_≤_};
+ghost use Rattle.model.specs.Refusals.{refusalNumber, good, faultAt, noFault};
+ghost use Rattle.model.specs.Sums.{bit};
 use crate::kinds::ChannelMap;
 use crate::kinds::Flow;
 use crate::kinds::FlowSet;
@@ -54,6 +57,33 @@ impl Refusal {
 pub struct Fault {
     pub refusal: Refusal,
     pub line: u32,
+}
+
+impl Fault {
+    // Nothing is refused.
+    pub fn none() -> Fault
+        ensures { λ r. ⌜ r ≡ noFault ⌝ }
+    {
+        Fault {
+            refusal: Refusal::Nothing,
+            line: 0,
+        }
+    }
+
+    // A refusal that names no line.
+    pub fn of(refusal: Refusal) -> Fault
+        ensures { λ r. ⌜ r ≡ faultAt refusal 0 ⌝ }
+    {
+        Fault { refusal, line: 0 }
+    }
+
+    // Whether something is refused.
+    pub fn refuses(self) -> bool
+        ensures { λ r. ⌜ r ≡ not (good (self .refusal)) ⌝ }
+    {
+        let refusal = self.refusal;
+        refusal.code() != 0
+    }
 }
 
 // The reader's answer: the set, or the fault and the blank set.
@@ -121,4 +151,40 @@ pub struct Ran {
     pub last: State,
     pub delivered: u64,
     pub dropped: u64,
+}
+
+// What C is answered: document 01's number for the refusal, and a test as 1 or 0.
+
+#[repr(C)]
+pub struct VerdictAnswer {
+    pub refusal: u32,
+    pub line: u32,
+    pub basic: u32,
+    pub tightened: u32,
+    pub rounds: u32,
+}
+
+#[repr(C)]
+pub struct BoundsAnswer {
+    pub refusal: u32,
+    pub line: u32,
+    pub work: u32,
+    pub basic: u32,
+    pub tightened: u32,
+    pub deadline: u32,
+    pub margin: i32,
+}
+
+#[repr(C)]
+pub struct SlotAnswer {
+    pub refusal: u32,
+    pub line: u32,
+    pub length: usize,
+}
+
+// A test as a number, 1 where it passes.
+pub fn bit(test: bool) -> u32
+    ensures { λ r. ⌜ (r ≡ bit test) × (r ≤ 1) ⌝ }
+{
+    if test { 1 } else { 0 }
 }

@@ -72,6 +72,13 @@ impl Slot {
 }
 
 impl Span {
+    // How many slots: a number of 16 bits, with the bound that it has by its width.
+    pub fn slots(self) -> u16
+        ensures { λ r. ⌜ (r ≡ self .0) × (r ≤ 65535) ⌝ }
+    {
+        self.0
+    }
+
     // A bound may pass 65,535, so it is a wider number: whether it is at most this deadline.
     pub fn keeps(self, bound: u32) -> bool
         ensures { λ r. ⌜ r ≡ leb bound (self .0) ⌝ }

@@ -1,2 +1,7 @@
-pub mod Readings
+pub mod Margins
 pub mod Plans
+pub mod Readings
+pub mod RunLines
+pub mod BoundText
+pub mod Planning
+pub mod PlanLines

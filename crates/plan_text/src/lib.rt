@@ -1,21 +1,21 @@
 // The plan of a text, as the program prints it.
-ghost use mathlib.Core.Path.{_≡_};
 ghost use Prim.Native.Nat.{_≤_};
 ghost use lib.ListN.{length};
-ghost use Rattle.document.specs.Program.{planText};
-ghost use Rattle.puts.specs.Stores.{Put};
-ghost use Rattle.plan_text.specs.Plans.{Passed, planRead, planAnswer, planInto};
+ghost use Rattle.text.specs.Put.{Put};
+ghost use Rattle.plan_text.specs.Plans.{Passed, planRead};
+ghost use Rattle.document.specs.Program.{planText, planAnswer, planInto};
+ghost use mathlib.Core.Path.{_≡_};
 
-mod plan_lines;
+mod lines;
 
-use answer_lines::is_long;
-use answer_lines::put_long;
+use crate::lines::is_long;
+use crate::lines::put_long;
+use crate::lines::put_plan;
 use model::Fault;
 use model::Reading;
 use model::Refusal;
 use model::Written;
-use plan_lines::put_plan;
-use puts::put_refused;
+use text::put_refused;
 
 // What the program prints for a text that was read.
 fn put_reading(out: &mut [u8], reading: Reading) -> usize
@@ -58,7 +58,7 @@ pub fn plan(input: &[u8], out: &mut [u8]) -> Written
         };
         return Written { fault, length: 0 };
     }
-    puts::put_word(out, 0, &text[..n]);
+    text::put_word(out, 0, &text[..n]);
     let fault = Fault {
         refusal: Refusal::Nothing,
         line: 0,

@@ -1,2 +1,9 @@
-pub mod Slots
-pub mod ForC
+pub mod Early
+pub mod SlotBytes
+pub mod StateBytes
+pub mod StateCopy
+pub mod Steps
+pub mod AnswerNumbers
+pub mod Cut
+pub mod Stepping
+pub mod Slotting

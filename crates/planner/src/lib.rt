@@ -2,15 +2,16 @@
 ghost use mathlib.Core.Path.{_≡_};
 ghost use lib.ListN.{length};
 ghost use Rattle.document.specs.Reader.{readText};
-ghost use Rattle.document.specs.Program.{slotState, slotBuffer};
-ghost use Rattle.planner.specs.ForC.{verdictForC, boundsForC, slotForC};
+ghost use Rattle.document.specs.Program.{slotBuffer, slotState};
+ghost use Rattle.document.specs.ForC.{boundsForC, slotForC, verdictForC};
 
-mod reading;
+mod answers;
 mod slots;
+mod state_bytes;
 
-use answer_lines::BoundsAnswer;
-use answer_lines::SlotAnswer;
-use answer_lines::VerdictAnswer;
+use model::BoundsAnswer;
+use model::SlotAnswer;
+use model::VerdictAnswer;
 
 // Both verdicts of the set in `text`; a text that is refused has the reader's refusal and line, and zeros.
 #[no_mangle]
@@ -18,14 +19,14 @@ pub extern "C" fn rembasuk_verdict(text: &[u8]) -> VerdictAnswer
     ensures { λ r. ⌜ r ≡ verdictForC (now (text .entry)) ⌝ }
 {
     let reading = text::read(text);
-    let v = reading::verdict(reading);
+    let v = answers::verdict(reading);
     let fault = v.fault;
     let refusal = fault.refusal;
     VerdictAnswer {
         refusal: refusal.code() as u32,
         line: fault.line,
-        basic: reading::bit(v.basic),
-        tightened: reading::bit(v.tightened),
+        basic: answers::bit(v.basic),
+        tightened: answers::bit(v.tightened),
         rounds: v.rounds,
     }
 }
@@ -36,7 +37,7 @@ pub extern "C" fn rembasuk_bounds(text: &[u8], flow: u32) -> BoundsAnswer
     ensures { λ r. ⌜ r ≡ boundsForC (now (text .entry)) flow ⌝ }
 {
     let reading = text::read(text);
-    let b = reading::bounds(reading, flow);
+    let b = answers::bounds(reading, flow);
     let fault = b.fault;
     let refusal = fault.refusal;
     BoundsAnswer {

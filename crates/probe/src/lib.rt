@@ -1,14 +1,14 @@
 // What C cannot reach, exported for the tests alone: every function over a record and the plan's text, with the refusal as document
 // 01's number.
-ghost use mathlib.Core.Path.{_≡_};
 ghost use lib.ListN.{length};
-ghost use Rattle.document.specs.Reader.{recordFault, readText, writeAnswer, writeInto};
-ghost use Rattle.document.specs.Delay.{verdictOf, boundsOf};
-ghost use Rattle.document.specs.Machine.{stepOf, runOf};
-ghost use Rattle.model.specs.Sets.{used};
+ghost use mathlib.Core.Path.{_≡_};
+ghost use Rattle.probe.specs.Told.{told, toldBounds, toldRan, toldReading, toldStepped, toldVerdict, toldWritten};
 ghost use Rattle.model.specs.Sums.{bit};
-ghost use Rattle.plan_text.specs.Plans.{planAnswer, planInto};
-ghost use Rattle.probe.specs.Told.{told, toldReading, toldWritten, toldVerdict, toldBounds, toldStepped, toldRan};
+ghost use Rattle.document.specs.Reader.{readText, recordFault, writeAnswer, writeInto};
+ghost use Rattle.model.specs.Sets.{used};
+ghost use Rattle.document.specs.Delay.{boundsOf, verdictOf};
+ghost use Rattle.document.specs.Machine.{runOf, stepOf};
+ghost use Rattle.document.specs.Program.{planAnswer, planInto};
 use model::Bounds;
 use model::ChannelMap;
 use model::Delivery;
@@ -119,7 +119,7 @@ fn told_reading(a: Reading) -> ProbeReading
 pub extern "C" fn probe_read(text: &[u8]) -> ProbeReading
     ensures { λ r. ⌜ r ≡ toldReading (readText (now (text .entry))) ⌝ }
 {
-    told_reading(reader::read(text))
+    told_reading(text::read(text))
 }
 
 fn told_written(a: Written) -> ProbeWritten
@@ -139,7 +139,7 @@ pub extern "C" fn probe_write(s: FlowSet, out: &mut [u8]) -> ProbeWritten
         × (now (out .exit) ≡ writeInto (used s) (now (out .entry)))
         ⌝ }
 {
-    told_written(writer::write(s, out))
+    told_written(text::write(s, out))
 }
 
 // The plan program's text.

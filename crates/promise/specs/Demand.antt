@@ -21,7 +21,7 @@ use Rattle.model.specs.Sums.{allTo}
 use Rattle.model.specs.Sets.{flowAt, used, filterTo}
 use Rattle.document.specs.Reader.{recordFault, readText}
 use Rattle.document.specs.Delay.{deadline, basicBound, valueAt, deadlines, reached, tightBound, admits, verdictIf, verdictOf, boundsFault, boundsIf, boundsOf}
-use Rattle.document.specs.Machine.{droppedAt, stepOf, runOf}
+use Rattle.document.specs.Machine.{droppedAt, stepOf, runOf, runWith}
 use Rattle.laws.specs.Sums.{and-l, and-r}
 use Rattle.laws.specs.Used.{used-count, used-flow, used-map}
 use Rattle.laws.specs.Accepted.{accepted}
@@ -112,7 +112,7 @@ module _ (s : FlowSet) (g : good (recordFault s .refusal) ≡ true) where
           }
 
       run-undropped : (t : ℕ) → t ≤ n → runOf s t .dropped ≡ 0
-      unfolding runOf
+      unfolding runWith
       run-undropped zero l = refl
       run-undropped (suc t) l =
           let e = ap (λ (r : Stepped). r .drops) (sym (report-step s t)) ∙ none-dropped t (omega arith) in

@@ -19,7 +19,7 @@ use Rattle.document.specs.Reader.{recordFault}
 use Rattle.document.specs.Delay.{period, workAt}
 use Rattle.document.specs.Machine.{releaseAt, deadlineAt, placedAt, sendOf, stepOf}
 use Rattle.laws.specs.Sums.{count, sum-ext, sum-more, sum-next, any-in, any-find}
-use Rattle.laws.specs.Load.{release-le}
+use Rattle.promise.specs.Load.{release-le}
 use Rattle.promise.specs.Promise.{report, send, Is}
 use Rattle.promise.specs.Run.{stateAt, choice}
 use Rattle.promise.specs.Timetable.{placedIn, numberIn, placed-ready, number-count}

@@ -21,8 +21,8 @@ use Rattle.document.specs.Delay.{period, deadline, workAt, valueAt}
 use Rattle.document.specs.Machine.{release, packetAt, releaseAt, deadlineAt, droppedAt, stepOf}
 use Rattle.laws.specs.Sums.{count, sum-more, sum-next}
 use Rattle.laws.specs.Accepted.{Accepted, accepted}
-use Rattle.laws.specs.Load as load
-use Rattle.laws.specs.Within.{done}
+use Rattle.promise.specs.Load as load
+use Rattle.promise.specs.Within.{done}
 use Rattle.promise.specs.Promise.{report, send, Is, Made}
 use Rattle.promise.specs.Run.{stateAt, dropped-case, state-slot}
 use Rattle.promise.specs.Timetable.{placedIn, after-eq, number-counts, number-count, timetable, value-is}

@@ -1,3 +1,8 @@
+pub mod Load
+pub mod Members
+pub mod Waiting
+pub mod Chosen
+pub mod Within
 pub mod Promise
 pub mod Run
 pub mod Timetable

@@ -12,7 +12,7 @@ use Rattle.model.specs.Limits.{firstChannel, mostFlows}
 use Rattle.model.specs.Refusals.{noFault}
 use Rattle.model.specs.Sets.{flowAt, memb, listTo, filterTo}
 use Rattle.document.specs.Delay.{ways, workAt}
-use Rattle.document.specs.Machine.{released, nextCount, countAt, hadAt, readyAt, dueAt, ahead, ordered, place, clashAt, placedAt, sendsFrom, countAfter, deliveredAt, deliveriesOf, droppedAt, nextState, stepped, stepIf, stepOf}
+use Rattle.document.specs.Machine.{released, nextCount, countAt, hadAt, readyAt, dueAt, ahead, ordered, place, clashAt, placedAt, sendsFrom, deliveriesOf, stepped, stepIf, stepOf, countWith, deliveredWith, droppedWith, nextWith}
 
 -- it moves to the next slot, sends nothing and drops nothing
 unfoldable pub idle : FlowSet → State → Stepped
@@ -36,7 +36,7 @@ choosing placed s st =
 
 -- with document 01's choice it is document 01's machine
 pub choosing-own : (s : FlowSet) (st : State) → choosing placedAt s st ≡ stepIf s st true
-unfolding choosing nextState countAfter deliveredAt droppedAt
+unfolding choosing nextWith countWith deliveredWith droppedWith
 choosing-own s st = refl
 
 -- conflicts are not looked at

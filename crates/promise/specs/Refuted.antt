@@ -18,7 +18,7 @@ use Rattle.model.specs.Sets.{freshState, flowAt, memb, used, anyOf, meet, listT
 use Rattle.document.specs.Text.{same, lines, ended, fields, allDigits, valueFrom, isNumber, allNumbers, valuesOf, wellFormed, numbersOf}
 use Rattle.document.specs.Reader.{twice, flowFault, flowsFault, recordFault, flowOf, withFlow, firstLineFault, flowLineFault, readFlows, setOf, readLines, readText}
 use Rattle.document.specs.Delay.{ways, period, workAt, conflictWork, share, overOthers, boundWith, basicBound, valueAt, deadlines, lowered, roundTo, roundsIn, reached, tightBound, admits, verdictOf, boundsFault, boundsOf}
-use Rattle.document.specs.Machine.{release, channels, ready, nextCount, insert, ordered, place, placedAt, channelsTo, radioChannel, sendOf, sendsFrom, countAfter, deliveredAt, deliveriesOf, droppedAt, nextState, badState, stepFault, stepOf}
+use Rattle.document.specs.Machine.{release, channels, ready, nextCount, insert, ordered, place, channelsTo, radioChannel, sendOf, sendsFrom, deliveriesOf, badState, stepFault, stepOf, countWith, deliveredWith, droppedWith, nextWith, placedWith, stepWith}
 use Rattle.document.specs.Table.{bytes}
 use Rattle.promise.specs.Promise.{report, send, Is, Made, Kept, PromiseWith, Promise}
 use Rattle.promise.specs.Run.{report-slot}
@@ -55,7 +55,7 @@ record Computed : Type 0 where
   lost : report backward (setFrom tight) 1 .drops ≡ 1
 
 computed : Computed
-unfolding report choosing altering bytes same lines ended fields allDigits valueFrom isNumber allNumbers valuesOf wellFormed numbersOf twice flowFault flowsFault recordFault flowOf withFlow firstLineFault flowLineFault readFlows setOf readLines readText conflictWork share overOthers boundWith basicBound valueAt deadlines lowered roundTo roundsIn reached tightBound admits verdictOf boundsFault boundsOf ready nextCount insert ordered place placedAt channelsTo radioChannel sendOf sendsFrom countAfter deliveredAt deliveriesOf droppedAt nextState badState stepFault stepOf sumTo anyTo allTo used anyOf meet listTo filterTo ones onesIn
+unfolding report choosing altering bytes same lines ended fields allDigits valueFrom isNumber allNumbers valuesOf wellFormed numbersOf twice flowFault flowsFault recordFault flowOf withFlow firstLineFault flowLineFault readFlows setOf readLines readText conflictWork share overOthers boundWith basicBound valueAt deadlines lowered roundTo roundsIn reached tightBound admits verdictOf boundsFault boundsOf ready nextCount insert ordered place placedWith channelsTo radioChannel sendOf sendsFrom countWith deliveredWith deliveriesOf droppedWith nextWith badState stepFault stepWith sumTo anyTo allTo used anyOf meet listTo filterTo ones onesIn
 computed =
     record {
       of-p5 =

@@ -20,7 +20,7 @@ use Rattle.document.specs.Reader.{recordFault}
 use Rattle.document.specs.Delay.{ways}
 use Rattle.document.specs.Machine.{hadAt, placedAt, noSend, sendOf, sendsFrom, sendsAt, droppedAt, filled, stepOf}
 use Rattle.laws.specs.Accepted.{accepted}
-use Rattle.laws.specs.Members.{memb-none, memb-case, memb-at}
+use Rattle.promise.specs.Members.{memb-none, memb-case, memb-at}
 use Rattle.promise.specs.Promise.{report, send, Is}
 use Rattle.promise.specs.Run.{stateAt, choice, state-slot, report-good}
 use Rattle.promise.specs.Timetable.{placedIn, numberIn, number-eq}

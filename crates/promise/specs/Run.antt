@@ -19,11 +19,11 @@ use Rattle.model.specs.Sums.{bit, anyTo}
 use Rattle.model.specs.Sets.{flowAt, freshState, memb, listTo}
 use Rattle.document.specs.Reader.{recordFault}
 use Rattle.document.specs.Delay.{ways, workAt}
-use Rattle.document.specs.Machine.{ready, nextCount, released, releaseAt, countAt, hadAt, readyAt, dueAt, ahead, clashAt, placedAt, countAfter, droppedAt, nextState, badState, stepFault, stepIf, stepOf, runOf}
+use Rattle.document.specs.Machine.{ready, nextCount, released, releaseAt, countAt, hadAt, readyAt, dueAt, ahead, clashAt, placedAt, countAfter, droppedAt, nextState, badState, stepFault, stepIf, stepOf, runOf, countWith, droppedWith, nextWith, placedWith, runWith, stepWith}
 use Rattle.laws.specs.Sums.{any-find, and-l, and-r, and-i, or-case, or-l, or-r}
 use Rattle.laws.specs.Accepted.{accepted}
 use Rattle.laws.specs.Values.{list-length, list-entry}
-use Rattle.laws.specs.Choice.{Priority, Chosen, chosen}
+use Rattle.promise.specs.Chosen.{Priority, Chosen, chosen}
 use Rattle.promise.specs.Promise.{report}
 
 -- the state in which slot t of the run begins
@@ -32,7 +32,7 @@ stateAt s t = runOf s t .last
 
 -- slot t reports the step from that state
 pub report-step : (s : FlowSet) (t : ℕ) → report stepOf s t ≡ stepOf s (stateAt s t)
-unfolding report runOf
+unfolding report runWith
 report-step s zero = refl
 report-step s (suc t) = ap (λ (r : Stepped). stepOf s (r .next)) (report-step s t)
 
@@ -84,7 +84,7 @@ order s st = record { irreflexive = λ k i. never k (ahead s st k k) refl; trans
 
 -- so a slot's choice guarantees what any order's does
 pub choice : (s : FlowSet) (st : State) → Chosen (s .count) (ways s) (ahead s st) (clashAt s st) (readyAt s st) (placedAt s st)
-unfolding placedAt
+unfolding placedWith
 choice s st = chosen (order s st) (ways s) (clashAt s st) (readyAt s st)
 
 -- a ready packet is released, before its absolute deadline, and short
@@ -105,7 +105,7 @@ ready-by s st k h = rw (le-leb _ _ (h .0), lt-ltb _ _ (h .1), lt-ltb _ _ (h .2))
 -- a packet is dropped after the last slot before its absolute deadline, if it is still short
 pub dropped-case : (s : FlowSet) (st : State) (k : ℕ) → droppedAt s st k ≡ true
     → (flowAt s k .start ≤ st .slot .0) × (st .slot .0 + 1 ≡ dueAt s st k) × (countAfter s st k < workAt s k)
-unfolding droppedAt
+unfolding droppedWith
 dropped-case s st k h =
     let r : released (flowAt s k) (st .slot .0) ≡ true = search (and-l, and-r) in
     let d : eqb (st .slot .0 + 1) (dueAt s st k) ≡ true = search (and-l, and-r) in
@@ -131,12 +131,12 @@ sound-fresh s = record { slot = refl; count-le = λ k h. omega (arith, fresh-zer
 
 -- the next counts
 pub next-count : (s : FlowSet) (st : State) (k : ℕ) → k < s .count → s .count ≤ mostFlows → countAt (nextState s st) k ≡ countAfter s st k
-unfolding nextState
+unfolding nextWith
 next-count s st k h l =
     list-entry (λ k. cond (ltb k (s .count)) (countAfter s st k) 0) mostFlows k (omega arith) ∙ rw (lt-ltb k (s .count) h)
 
 next-beyond : (s : FlowSet) (st : State) (k : ℕ) → s .count ≤ k → countAt (nextState s st) k ≡ 0
-unfolding nextState
+unfolding nextWith
 next-beyond s st k h =
     elim (decLe mostFlows k) [
       | yes l ↦ List·getD-eq-default (listTo next mostFlows) 0 {n = k} (omega (arith, list-length next mostFlows))
@@ -148,7 +148,7 @@ next-beyond s st k h =
 
 -- a placed packet was short, so no count passes C
 after-le : (s : FlowSet) (st : State) (k : ℕ) → countAt st k ≤ workAt s k → countAfter s st k ≤ workAt s k
-unfolding countAfter nextCount
+unfolding countWith nextCount
 after-le s st k h = go (released (flowAt s k) (st .slot .0)) (memb k (placedAt s st)) refl
   where
     had-le : (b : Bool) → cond b 0 (countAt st k) ≤ workAt s k
@@ -161,7 +161,7 @@ after-le s st k h = go (released (flowAt s k) (st .slot .0)) (memb k (placedAt s
     go true true e = omega (arith, ready-case s st k (choice s st .only k e .1))
 
 sound-next : (s : FlowSet) (t : ℕ) (st : State) → s .count ≤ mostFlows → Sound s t st → Sound s (suc t) (nextState s st)
-unfolding nextState
+unfolding nextWith
 sound-next s t st c i =
     record {
       slot = omega (arith, i .slot);
@@ -198,17 +198,17 @@ sound-fault s t st g h i = rw (g, sound-good s t st (omega arith) i, lt-leb last
 
 sound-step : (s : FlowSet) (t : ℕ) (st : State) → good (recordFault s .refusal) ≡ true → t < lastSlot → Sound s t st
     → stepOf s st ≡ stepIf s st true
-unfolding stepOf
+unfolding stepWith
 sound-step s t st g h i = rw (sound-fault s t st g h i)
 
 -- so it is in every slot of the run
 fresh-state : (s : FlowSet) → stateAt s 0 ≡ freshState
-unfolding runOf
+unfolding runWith
 fresh-state s = refl
 
 sound-state : (s : FlowSet) (t : ℕ) → good (recordFault s .refusal) ≡ true → t < lastSlot → Sound s t (stateAt s t)
     → stateAt s (suc t) ≡ nextState s (stateAt s t)
-unfolding runOf
+unfolding runWith
 sound-state s t g h i = ap (λ (r : Stepped). r .next) (sound-step s t (stateAt s t) g h i)
 
 run-sound : (s : FlowSet) → good (recordFault s .refusal) ≡ true → s .count ≤ mostFlows → (t : ℕ) → t ≤ lastSlot → Sound s t (stateAt s t)
@@ -229,7 +229,7 @@ module _ (s : FlowSet) (g : good (recordFault s .refusal) ≡ true) where
   state-next t h = rw add-one (sound-state s t g h (run-sound s g few t (omega arith)))
 
   step-slot : (t : ℕ) → t < lastSlot → stepOf s (stateAt s t) .next .slot .0 ≡ t + 1
-  unfolding runOf
+  unfolding runWith
   step-slot t h = rw add-one (state-slot (suc t) h)
 
   -- its report is that of a step which is not refused

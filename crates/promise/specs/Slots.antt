@@ -23,7 +23,7 @@ use Rattle.document.specs.Reader.{twice, recordFault}
 use Rattle.document.specs.Machine.{hadAt, linkAt, placedAt, channelsTo, channels, radioChannel, sendOf, stepOf}
 use Rattle.laws.specs.Sums.{or-case, or-l, or-r}
 use Rattle.laws.specs.Accepted.{accepted}
-use Rattle.laws.specs.Members.{memb-none, memb-snoc, memb-at, Pairs, pairs-snoc, pairs-at}
+use Rattle.promise.specs.Members.{memb-none, memb-snoc, memb-at, Pairs, pairs-snoc, pairs-at}
 use Rattle.promise.specs.Promise.{report, Apart}
 use Rattle.promise.specs.Run.{stateAt, choice, ready-case}
 use Rattle.promise.specs.Timetable.{meet-by, some-way}

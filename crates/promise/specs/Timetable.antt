@@ -21,12 +21,12 @@ use Rattle.model.specs.Sums.{bit, sumTo}
 use Rattle.model.specs.Sets.{flowAt, memb, meet, links, work}
 use Rattle.document.specs.Reader.{recordFault}
 use Rattle.document.specs.Delay.{ways, period, deadline, workAt, touches, conflictWork, share, overOthers, boundWith, valueAt}
-use Rattle.document.specs.Machine.{had, releaseAt, deadlineAt, nextCount, countAt, hadAt, readyAt, dueAt, linkAt, ahead, clashAt, placedAt, countAfter}
+use Rattle.document.specs.Machine.{had, releaseAt, deadlineAt, nextCount, countAt, hadAt, readyAt, dueAt, linkAt, ahead, clashAt, placedAt, countAfter, countWith}
 use Rattle.laws.specs.Sums.{count, sum-ext, sum-const, sum-split}
 use Rattle.laws.specs.Accepted.{Accepted, accepted, ones-pos}
-use Rattle.laws.specs.Members.{memb-none, memb-tail, memb-case, memb-head, one-of, some-of}
-use Rattle.laws.specs.Load as load
-use Rattle.laws.specs.Within.{Ready, Schedule, value, others}
+use Rattle.promise.specs.Members.{memb-none, memb-tail, memb-case, memb-head, one-of, some-of}
+use Rattle.promise.specs.Load as load
+use Rattle.promise.specs.Within.{Ready, Schedule, value, others}
 use Rattle.promise.specs.Run.{stateAt, order, ahead-case, choice, ready-case, ready-by, state-slot, count-next}
 
 -- flow k is placed in slot t of the run
@@ -108,7 +108,7 @@ module _ (s : FlowSet) (g : good (recordFault s .refusal) ≡ true) where
 
   -- the next count, as a sum
   pub after-eq : (k t : ℕ) → t ≤ lastSlot → flowAt s k .start ≤ t → countAfter s (stateAt s t) k ≡ numberIn s k t + bit (placedIn s k t)
-  unfolding countAfter nextCount
+  unfolding countWith nextCount
   after-eq k t h a = rw (state-slot s g t h, le-leb (flowAt s k .start) t a)
 
   -- the number is 0 in a packet's release slot, and one more in the slot after each transmission

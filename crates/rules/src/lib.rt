@@ -2,13 +2,16 @@
 // so that each is proved by a short chain of tests. And the record check: the same rules of a set that is handed over as a record, line by
 // line as its text would be judged.
 ghost use mathlib.Core.Path.{_≡_};
-ghost use lib.ListN.{take};
-ghost use Prim.Native.Nat.{_≤_, _<_};
-ghost use Rattle.rules.specs.Parts.{deadlineFault, triesFault, routeFault, workFault};
-ghost use Rattle.document.specs.Reader.{mapFault, flowFault, flowsFault, recordFlowFault, recordFault};
-ghost use Rattle.model.specs.Sets.{exact, used};
+ghost use Prim.Native.Nat.{_<_, _≤_};
+ghost use Rattle.rules.specs.Rules.{deadlineFault, routeFault, triesFault, workFault};
 ghost use Rattle.model.specs.Limits.{mostNodes};
-use marks::repeats;
+ghost use lib.ListN.{take};
+ghost use Rattle.document.specs.Reader.{flowFault, flowsFault, mapFault, recordFault, recordFlowFault};
+ghost use Rattle.model.specs.Sets.{exact, used};
+
+mod route;
+
+use crate::route::repeats;
 use model::Fault;
 use model::Flow;
 use model::FlowSet;

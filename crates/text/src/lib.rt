@@ -1,9 +1,24 @@
 // The reader and the writer of flow sets, document 01's text, and that every record which code can hold has the round trip.
 ghost use mathlib.Core.Path.{_≡_};
 ghost use mathlib.Core.Bool.{true};
-ghost use Rattle.writer.specs.Written.{Stored, StoredFlow};
+ghost use Rattle.text.specs.Written.{Stored, StoredFlow};
+
+mod digits;
+mod line;
+mod put;
+mod reader;
+mod writer;
+
 use model::Flow;
 use model::FlowSet;
+pub use put::put_byte;
+pub use put::put_field;
+pub use put::put_fields;
+pub use put::put_line;
+pub use put::put_number;
+pub use put::put_refused;
+pub use put::put_sends;
+pub use put::put_word;
 pub use reader::read;
 pub use writer::write;
 

@@ -4,8 +4,8 @@ use mathlib.Core.Bool.{true}
 use Rattle.model.specs.Refusals.{good}
 use Rattle.document.specs.Reader.{recordFault}
 use Rattle.model.specs.Sets.{used}
-use Rattle.tables.proofs.Checked.{number-zero, number-other}
-use Rattle.delay.proofs.Results.{all-refused, all-given}
+use Rattle.delay.specs.Checked.{number-zero, number-other}
+use Rattle.delay.specs.Results.{all-refused, all-given}
 use borrow.Author.Needs.{needs}
 use Rattle.delay.proofs.all_bounds.Statement.{statement}
 use Rattle.delay.proofs.all_bounds.Tie as tie

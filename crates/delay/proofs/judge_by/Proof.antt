@@ -2,11 +2,11 @@
 use Prim.Native.Nat.{_≤_, _<_}
 use native.Mathlib.Omega.{arith}
 use Rattle.model.specs.Sets.{used}
-use Rattle.tables.specs.Tables.{Tables, tablesOf}
-use Rattle.tables.specs.Sums.{Fits}
-use Rattle.tables.proofs.Carry.{fits-carried}
-use Rattle.tables.proofs.Checked.{ones-pos}
-use Rattle.delay.proofs.Results.{basic-carried, tight-carried, values-ext}
+use Rattle.delay.specs.Tables.{Tables, tablesOf}
+use Rattle.delay.specs.RowSums.{Fits}
+use Rattle.delay.specs.Carry.{fits-carried}
+use Rattle.delay.specs.Checked.{ones-pos}
+use Rattle.delay.specs.Results.{basic-carried, tight-carried, values-ext}
 use borrow.Author.Needs.{needs}
 use Rattle.model.specs.Limits.{mostFlows}
 use Rattle.delay.proofs.judge_by.Statement.{statement}

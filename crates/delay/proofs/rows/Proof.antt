@@ -2,8 +2,8 @@
 use mathlib.Core.Path.{_≡_}
 use Prim.Native.Nat.{_-_, _≤_}
 use native.Mathlib.Omega.{arith}
-use Rattle.tables.specs.Rows.{Short, RowsDone}
-use Rattle.delay.proofs.Terms.{short-zeros, done-next}
+use Rattle.delay.specs.WholeRows.{Short, RowsDone}
+use Rattle.delay.specs.Tabulated.{short-zeros, done-next}
 use borrow.Author.Needs.{needs}
 use Rattle.delay.proofs.rows.Statement.{statement}
 use Rattle.delay.proofs.rows.Tie as tie

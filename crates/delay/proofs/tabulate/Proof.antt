@@ -1,7 +1,7 @@
 -- `tabulate`: the flows' numbers, S, and the rows made of them. Assumes nothing beyond its `requires`.
 use Rattle.model.specs.Sets.{used}
-use Rattle.tables.proofs.Checked.{count-at}
-use Rattle.delay.proofs.Terms.{numbers-lent, conflicts-lent, done-lent, small-rows, rows-pos, tabled}
+use Rattle.delay.specs.Checked.{count-at}
+use Rattle.delay.specs.Tabulated.{numbers-lent, conflicts-lent, done-lent, small-rows, rows-pos, tabled}
 use borrow.Author.Needs.{needs}
 use Rattle.delay.proofs.tabulate.Statement.{statement}
 use Rattle.delay.proofs.tabulate.Tie as tie

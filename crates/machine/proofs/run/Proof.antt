@@ -1,5 +1,5 @@
 -- `run` of a refused set stays where it began; of any other it is the accepted set's. Assumes nothing.
-use Rattle.machinery.specs.States.{run-refused, run-none}
+use Rattle.machine.specs.States.{run-refused, run-none}
 use Rattle.model.specs.Sets.{used}
 use Rattle.document.specs.Reader.{recordFault}
 use Rattle.model.specs.Refusals.{good, refusalNumber}
@@ -9,7 +9,7 @@ use Rattle.model.specs.declared.kinds.State.{State}
 use borrow.Author.Tests.{eq-eqb, ne-eqb}
 use mathlib.Core.Bool.{false}
 use Prim.Native.Nat.{_≤_}
-use Rattle.machine.proofs.Kept.{never-drops}
+use Rattle.machine.specs.RunKept.{never-drops}
 use mathlib.Core.Path.{_≡_, refl, sym, ap, ap₂, _∙_}
 use borrow.Author.Needs.{needs}
 use Rattle.machine.proofs.run.Statement.{statement}

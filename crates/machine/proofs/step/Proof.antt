@@ -1,5 +1,5 @@
 -- `step` of a refused set returns the fault; of any other it is the accepted set's. Assumes nothing.
-use Rattle.machinery.specs.States.{step-refused}
+use Rattle.machine.specs.States.{step-refused}
 use Rattle.document.specs.Machine.{stepped}
 use Rattle.model.specs.Sets.{used}
 use Rattle.document.specs.Reader.{recordFault}

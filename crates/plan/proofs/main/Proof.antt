@@ -6,15 +6,11 @@ use native.Mathlib.Omega.{arith}
 use lib.ListN.{length, length-replicate, replicate}
 use lib.Seq.{length-take-le}
 use Rattle.model.specs.declared.answers.Written.{Written}
-use Rattle.plan_text.specs.Plans.{planAnswer, answer-le}
+use Rattle.plan_text.specs.Plans.{answer-le}
 use borrow.Author.Needs.{needs}
 use Rattle.plan.proofs.main.Statement.{statement}
+use Rattle.document.specs.Program.{planAnswer}
 use Rattle.plan.proofs.main.Tie as tie
-use Rattle.plan.proofs.main.Reads as reads
-use Rattle.plan.proofs.main.Lts as lts
-use Rattle.io.proofs.read_full.Reads as read-full-reads
-use Rattle.io.proofs.write_all.Reads as write-all-reads
-use Rattle.plan_text.proofs.plan.Reads as plan-reads
 
 within : {w : Written} (input out : List ℕ) → w ≡ planAnswer input (length (replicate {A = ℕ} 18432 0)) → length out ≡ 18432 → w .length ≤ length out
 within input out e h =

@@ -1,7 +1,7 @@
 use Prim.{tt}
 use Prim.Native.Nat.{ℕ}
 use lib.ListN.{length-replicate}
-use Rattle.plan_text.proofs.Planning.{made-long, made-part, no-room, room}
+use Rattle.plan_text.specs.Planning.{made-long, made-part, no-room, room}
 use borrow.Author.Needs.{needs}
 use Rattle.plan_text.proofs.plan.Statement.{statement}
 use Rattle.plan_text.proofs.plan.Tie as tie

@@ -1,9 +1,9 @@
 -- `put_reading` puts the plan, or the line of the refusal. Assumes nothing.
 use Prim.{tt}
 use mathlib.Core.Path.{sym}
-use Rattle.puts.specs.Stores.{put-same}
-use Rattle.answer_lines.specs.Codes.{is-good, not-good}
-use Rattle.plan_text.proofs.Planning.{read-good, read-refused, refused-le}
+use Rattle.text.specs.Put.{put-same}
+use Rattle.laws.specs.Codes.{is-good, not-good}
+use Rattle.plan_text.specs.Planning.{read-good, read-refused, refused-le}
 use Rattle.plan_text.proofs.put_reading.Statement.{statement}
 use Rattle.plan_text.proofs.put_reading.Tie as tie
 

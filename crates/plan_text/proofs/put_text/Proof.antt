@@ -3,10 +3,10 @@ use Prim.{tt}
 use mathlib.Core.Path.{sym, ap, _∙_}
 use Rattle.model.specs.declared.answers.Refusal.the-variants.{NoRoom}
 use Rattle.model.specs.Refusals.{faultAt}
-use Rattle.puts.specs.Stores.{put-same}
+use Rattle.text.specs.Put.{put-same}
 use Rattle.plan_text.specs.Plans.{planRead}
 use Rattle.plan_text.specs.Readings.{read-pass}
-use Rattle.plan_text.proofs.Planning.{text-long, text-short, refused-le}
+use Rattle.plan_text.specs.Planning.{text-long, text-short, refused-le}
 use Rattle.plan_text.proofs.put_text.Statement.{statement}
 use Rattle.plan_text.proofs.put_text.Tie as tie
 

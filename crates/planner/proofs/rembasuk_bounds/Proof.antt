@@ -2,17 +2,11 @@ use mathlib.Core.Path.{_≡_, ap, _∙_}
 use mir.Syntax.{w32}
 use mir.Val.{toZ, ofZ}
 use Rattle.model.specs.declared.answers.Reading.{Reading}
-use Rattle.planner.specs.ForC.{boundsForC, boundsOfReading}
-use Rattle.answer_lines.specs.Numbers.{boundsNumbers}
-use Rattle.answer_lines.proofs.Answers.{bounds-numbers}
+use Rattle.planner.specs.AnswerNumbers.{bounds-numbers}
 use borrow.Author.Needs.{needs}
 use Rattle.planner.proofs.rembasuk_bounds.Statement.{statement}
+use Rattle.document.specs.ForC.{boundsForC, boundsNumbers, boundsOfReading}
 use Rattle.planner.proofs.rembasuk_bounds.Tie as tie
-use Rattle.planner.proofs.rembasuk_bounds.Reads as reads
-use Rattle.planner.proofs.rembasuk_bounds.Lts as lts
-use Rattle.model.proofs.answers.Refusal.code.Reads as code-reads
-use Rattle.planner.proofs.reading.bounds.Reads as bounds-reads
-use Rattle.text.proofs.read.Reads as read-reads
 
 read-requires : tie.Need-read-requires
 read-requires c κs = search needs

@@ -2,18 +2,11 @@ use mathlib.Core.Path.{ap, _∙_}
 use lib.ListN.{length}
 use Rattle.model.specs.declared.answers.Reading.{Reading}
 use Rattle.document.specs.Program.{slotState, slotBuffer}
-use Rattle.planner.specs.Slots.{slotAnswer}
-use Rattle.planner.specs.ForC.{slotForC}
-use Rattle.answer_lines.specs.Numbers.{slotNumbers}
-use Rattle.answer_lines.proofs.Answers.{slot-numbers}
+use Rattle.planner.specs.AnswerNumbers.{slot-numbers}
 use borrow.Author.Needs.{needs}
 use Rattle.planner.proofs.rembasuk_slot.Statement.{statement}
+use Rattle.document.specs.ForC.{slotAnswer, slotForC, slotNumbers}
 use Rattle.planner.proofs.rembasuk_slot.Tie as tie
-use Rattle.planner.proofs.rembasuk_slot.Reads as reads
-use Rattle.planner.proofs.rembasuk_slot.Lts as lts
-use Rattle.model.proofs.answers.Refusal.code.Reads as code-reads
-use Rattle.planner.proofs.slots.slot.Reads as slot-reads
-use Rattle.text.proofs.read.Reads as read-reads
 
 read-requires : tie.Need-read-requires
 read-requires c κs = search needs

@@ -1,16 +1,9 @@
 use mathlib.Core.Path.{ap, _∙_}
-use Rattle.planner.specs.ForC.{verdictForC, verdictOfReading}
-use Rattle.answer_lines.specs.Numbers.{verdictNumbers}
-use Rattle.answer_lines.proofs.Answers.{verdict-numbers}
+use Rattle.planner.specs.AnswerNumbers.{verdict-numbers}
 use borrow.Author.Needs.{needs}
 use Rattle.planner.proofs.rembasuk_verdict.Statement.{statement}
+use Rattle.document.specs.ForC.{verdictForC, verdictNumbers, verdictOfReading}
 use Rattle.planner.proofs.rembasuk_verdict.Tie as tie
-use Rattle.planner.proofs.rembasuk_verdict.Reads as reads
-use Rattle.planner.proofs.rembasuk_verdict.Lts as lts
-use Rattle.model.proofs.answers.Refusal.code.Reads as code-reads
-use Rattle.planner.proofs.reading.bit.Reads as bit-reads
-use Rattle.planner.proofs.reading.verdict.Reads as verdict-reads
-use Rattle.text.proofs.read.Reads as read-reads
 
 read-requires : tie.Need-read-requires
 read-requires c κs = search needs

@@ -2,7 +2,7 @@
 use Prim.Native.Nat.{_<_}
 use borrow.Author.Needs.{needs}
 use borrow.Author.Tests.{eq-eqb, ne-eqb, lt-ltb, le-ltb}
-use Rattle.rules.specs.Parts.{deadlineFault}
+use Rattle.rules.specs.Rules.{deadlineFault}
 use Rattle.rules.proofs.deadline_fault.Statement.{statement}
 use Rattle.rules.proofs.deadline_fault.Tie as tie
 

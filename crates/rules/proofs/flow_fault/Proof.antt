@@ -3,7 +3,7 @@ use mathlib.Core.Path.{_≡_}
 use borrow.Author.Needs.{needs}
 use borrow.Author.Tests.{eq-eqb, ne-eqb, le-leb, lt-leb}
 use Rattle.document.specs.Reader.{flowFault}
-use Rattle.rules.specs.Parts.{deadlineFault, triesFault, routeFault, workFault}
+use Rattle.rules.specs.Rules.{deadlineFault, triesFault, routeFault, workFault}
 use Rattle.rules.proofs.flow_fault.Statement.{statement}
 use Rattle.rules.proofs.flow_fault.Tie as tie
 

@@ -1,7 +1,7 @@
 -- `record_fault` is the map's fault and then the flows'. Assumes nothing.
 use mathlib.Core.Path.{sym, _∙_}
 use borrow.Author.Needs.{needs}
-use Rattle.rules.proofs.Flows.{record-first, record-on}
+use Rattle.rules.specs.RecordFlows.{record-first, record-on}
 use Rattle.rules.proofs.record_fault.Statement.{statement}
 use Rattle.rules.proofs.record_fault.Tie as tie
 

@@ -3,13 +3,10 @@ use Prim.Native.Nat.{_<_}
 use mathlib.Core.Path.{sym, _∙_}
 use borrow.Author.Needs.{needs}
 use borrow.Author.Tests.{lt-ltb, le-ltb}
-use Rattle.rules.specs.Parts.{routeFault}
+use Rattle.rules.specs.Rules.{routeFault}
 use Rattle.model.specs.Limits.{mostNodes}
 use Rattle.rules.proofs.route_fault.Statement.{statement}
 use Rattle.rules.proofs.route_fault.Tie as tie
-use Rattle.rules.proofs.route_fault.Reads as reads
-use Rattle.rules.proofs.route_fault.Lts as lts
-use Rattle.marks.proofs.repeats.Reads as repeats-reads
 
 returns : tie.Need-returns
 unfolding routeFault

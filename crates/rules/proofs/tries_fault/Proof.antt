@@ -2,7 +2,7 @@
 use Prim.Native.Nat.{_<_}
 use borrow.Author.Needs.{needs}
 use borrow.Author.Tests.{eq-eqb, ne-eqb, lt-ltb, le-ltb}
-use Rattle.rules.specs.Parts.{triesFault}
+use Rattle.rules.specs.Rules.{triesFault}
 use Rattle.rules.proofs.tries_fault.Statement.{statement}
 use Rattle.rules.proofs.tries_fault.Tie as tie
 

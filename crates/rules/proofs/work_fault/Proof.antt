@@ -5,7 +5,7 @@ use native.Mathlib.Omega.{arith}
 use borrow.Author.Needs.{needs}
 use borrow.Author.Tests.{lt-ltb, le-ltb}
 use lib.Dec.{lit<}
-use Rattle.rules.specs.Parts.{workFault}
+use Rattle.rules.specs.Rules.{workFault}
 use Rattle.model.specs.Limits.{mostLinks}
 use Rattle.rules.proofs.work_fault.Statement.{statement}
 use Rattle.rules.proofs.work_fault.Tie as tie

@@ -5,7 +5,7 @@ use native.Mathlib.Omega.{arith}
 use lib.ListN.{getD}
 use mir.Syntax.{w16}
 use mir.Val.{Fits}
-use Rattle.writer.specs.Written.{numbers-small}
+use Rattle.text.specs.Written.{numbers-small}
 use borrow.Author.Needs.{needs}
 use Rattle.text.proofs.flow_stored.Statement.{statement}
 use Rattle.text.proofs.flow_stored.Tie as tie

@@ -6,7 +6,7 @@ use native.Mathlib.Omega.{arith}
 use borrow.Author.Count.{below-more}
 use lib.ListN.{length, length-map}
 use Rattle.model.specs.Sets.{flowAt}
-use Rattle.writer.specs.Written.{StoredFlow}
+use Rattle.text.specs.Written.{StoredFlow}
 use borrow.Author.Needs.{needs}
 use Rattle.model.specs.Limits.{mostFlows}
 use Rattle.text.proofs.stored.Statement.{statement}

@@ -2,19 +2,12 @@ use mathlib.Core.Path.{ap, _∙_}
 use Rattle.model.specs.declared.kinds.State.{State}
 use Rattle.model.specs.Sets.{used}
 use Rattle.document.specs.Machine.{stepOf}
-use Rattle.answer_lines.specs.Codes.{is-good, not-good}
-use Rattle.planner.proofs.Slotting.{Early, answered-early, state-whole, step-answered}
+use Rattle.laws.specs.Codes.{is-good, not-good}
+use Rattle.planner.specs.Slotting.{Early, answered-early, state-whole, step-answered}
 use borrow.Author.Needs.{needs}
 use Rattle.planner.proofs.slots.slot.Statement.{statement}
 use Rattle.planner.proofs.slots.slot.Tie as tie
-use Rattle.planner.proofs.slots.slot.Reads as reads
-use Rattle.planner.proofs.slots.slot.Lts as lts
-use Rattle.model.proofs.answers.Refusal.code.Reads as code-reads
-use Rattle.machine.proofs.step.Reads as step-reads
-use Rattle.answer_lines.proofs.early.Reads as early-reads
-use Rattle.answer_lines.proofs.refused.Reads as refused-reads
-use Rattle.answer_lines.proofs.write_step.Reads as write-step-reads
-use Rattle.state_bytes.specs.Bytes.{state-in}
+use Rattle.planner.specs.StateBytes.{state-in}
 
 early-requires : tie.Need-early-requires
 early-requires c κs = search needs

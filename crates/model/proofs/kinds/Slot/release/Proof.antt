@@ -1,5 +1,5 @@
 -- `Slot::release`: from the first on the release is the slot less its place in the period. Assumes nothing.
-use Rattle.model.proofs.Releases.{release-back, release-first, release-only}
+use Rattle.model.specs.Releases.{release-back, release-first, release-only}
 use native.Mathlib.Nat.{mod-le}
 use native.Mathlib.Omega.{arith}
 use Prim.Native.Nat.{_-_}

@@ -1,6 +1,0 @@
-pub mod Margins
-pub mod BoundText
-pub mod Numbers
-pub mod Codes
-pub mod Early
-pub mod Steps

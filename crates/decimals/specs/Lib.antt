@@ -1,3 +1,0 @@
-pub mod Decimals
-pub mod Stored
-pub mod Copied

@@ -1,0 +1,59 @@
+-- `search`: the first k rows hold S. Assumes nothing beyond its `requires`.
+use mathlib.Core.Path.{_≡_}
+use Prim.Native.Nat.{_-_, _≤_}
+use native.Mathlib.Omega.{arith}
+use Rattle.model.specs.Sets.{used}
+use Rattle.delay.specs.Grid.{RowsTo, conflictOf}
+use Rattle.delay.specs.Checked.{count-at}
+use Rattle.delay.specs.Fill.{rows-next}
+use borrow.Author.Needs.{needs}
+use Rattle.delay.proofs.conflicts.search.Statement.{statement}
+use Rattle.delay.proofs.conflicts.search.Tie as tie
+
+abbrev Inv-loop : tie.InvT-loop
+Inv-loop s t₀ n k₀ t k = (k ≤ n) × RowsTo (conflictOf (used s)) n k t
+
+abbrev μ-loop : tie.MeasureT-loop
+μ-loop s t₀ n k₀ t k = n - k
+
+cast-n : tie.Need-cast-n Inv-loop μ-loop
+cast-n c = search needs
+
+loop-holds : tie.Need-loop-holds Inv-loop μ-loop
+loop-holds c = (search needs, c .before .pre .1)
+
+conflict-row-requires : tie.Need-conflict-row-requires Inv-loop μ-loop
+conflict-row-requires c κs =
+    let b = c .before .before .before .before in
+    (b .pre .0, (c .before .loop-test .taken, c .before .before .loop .inv .1 .whole))
+
+add-k : tie.Need-add-k Inv-loop μ-loop
+add-k c = search needs
+
+loop-less : tie.Need-loop-less Inv-loop μ-loop
+loop-less c = search needs
+
+loop-again : tie.Need-loop-again Inv-loop μ-loop
+loop-again c =
+    let b = c .before .before .before .before .before in
+    let w = c .before .before .before .loop in
+    (search needs, rows-next _ _ (w .k) _ _ (count-at (b .args .s) (b .pre .0)) (w .inv .1) (c .conflict-row .ensures))
+
+returns : tie.Need-returns Inv-loop μ-loop
+returns c =
+    let e : c .before .loop .k ≡ c .before .before .before .args .s .count = omega arith in
+    rw e at (c .before .loop .inv .1)
+
+pub search-spec : {M : Type 1} → statement M
+search-spec =
+    tie.close
+    (tie.spec
+    Inv-loop
+    μ-loop
+    cast-n
+    loop-holds
+    conflict-row-requires
+    add-k
+    loop-less
+    loop-again
+    returns)

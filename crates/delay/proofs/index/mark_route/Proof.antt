@@ -1,0 +1,89 @@
+-- `mark_route`: the column says of each node passed that it is on the route, and of no other so far. Assumes nothing beyond its `requires`.
+use mathlib.Core.Path.{_≡_, refl, sym}
+use Prim.Native.Nat.{_-_, _≤_}
+use native.Mathlib.Omega.{arith}
+use lib.ListN.{length, getD}
+use Rattle.delay.specs.Index.{Column, OtherColumns}
+use Rattle.delay.specs.IndexPlaces.{place-lt, others-next, column-next, column-at}
+use borrow.Author.Needs.{needs}
+use Rattle.model.specs.Limits.{mostNodes}
+use Rattle.delay.proofs.index.mark_route.Statement.{statement}
+use Rattle.delay.proofs.index.mark_route.Tie as tie
+
+abbrev Inv-loop : tie.InvT-loop
+Inv-loop k rows users₀ f n j₀ users j = (j ≤ n) × (n ≤ mostNodes) × (length (f .route) ≡ mostNodes) × OtherColumns k users₀ users × Column rows users k (f .route) j
+
+abbrev μ-loop : tie.MeasureT-loop
+μ-loop k rows users₀ f n j₀ users j = n - j
+
+cast-n : tie.Need-cast-n Inv-loop μ-loop
+cast-n c = search needs
+
+loop-holds : tie.Need-loop-holds Inv-loop μ-loop
+loop-holds c = search needs
+
+mul-row-of : tie.Need-mul-row-of Inv-loop μ-loop
+mul-row-of c = search needs
+
+element-copy-out-row-of : tie.Need-element-copy-out-row-of Inv-loop μ-loop
+element-copy-out-row-of c = search needs
+
+row-of-requires : tie.Need-row-of-requires Inv-loop μ-loop
+row-of-requires c κs = search needs
+
+mul-users : tie.Need-mul-users Inv-loop μ-loop
+mul-users c = search needs
+
+add-users : tie.Need-add-users Inv-loop μ-loop
+add-users c = search needs
+
+element-write-users : tie.Need-element-write-users Inv-loop μ-loop
+element-write-users c =
+    let w = c .before .before .before .loop in
+    let b = c .before .before .before .before in
+    omega (arith, c .row-of .ensures .0, place-lt (b .args .rows .now) (w .users) (b .args .k) (getD (b .args .t1 .route) (w .j) 0) (b .pre .0 .1) (b .pre .0 .2) (w .inv .3 .whole))
+
+add-j : tie.Need-add-j Inv-loop μ-loop
+add-j c = search needs
+
+loop-less : tie.Need-loop-less Inv-loop μ-loop
+loop-less c = search needs
+
+loop-again : tie.Need-loop-again Inv-loop μ-loop
+loop-again c =
+    let w = c .before .before .before .loop in
+    let b = c .before .before .before .before in
+    let f = b .args .t1 in
+    let x = getD (f .route) (w .j) 0 in
+    let p = b .pre .0 in
+    let o = w .inv .3 in
+    let h = c .before .before .loop-test .taken in
+    let i : getD (b .args .rows .now) x 0 ≡ c .row-of .result = sym (c .row-of .ensures .0) in
+    let a = others-next (b .args .rows .now) (w .users) (b .args .k) x (p .1) (p .2) (o .whole) _ o in
+    let d = column-next (b .args .rows .now) (w .users) (b .args .k) x (p .1) (p .2) (o .whole) (f .route) (w .j) (omega arith) refl (p .3 (w .j) h) (w .inv .4) in
+    (search needs, search needs, search needs, rw i at a, rw i at d)
+
+returns : tie.Need-returns Inv-loop μ-loop
+returns c =
+    let w = c .before .loop in
+    let b = c .before .before in
+    (w .inv .3, column-at (b .args .rows .now) (w .users) (b .args .k) (b .args .t1 .route) (b .args .t1 .nodes) (w .j) (omega arith) (w .inv .4))
+
+pub mark-route-spec : {M : Type 1} → statement M
+mark-route-spec =
+    tie.close
+    (tie.spec
+    Inv-loop
+    μ-loop
+    cast-n
+    loop-holds
+    mul-row-of
+    element-copy-out-row-of
+    row-of-requires
+    mul-users
+    add-users
+    element-write-users
+    add-j
+    loop-less
+    loop-again
+    returns)

@@ -1,0 +1,99 @@
+-- `divide`: the quotients and remainders of the periods so far. Assumes nothing beyond its `requires`.
+use mathlib.Core.Path.{_≡_}
+use Prim.Native.Nat.{_-_, _≤_}
+use native.Mathlib.Omega.{arith}
+use Rattle.delay.specs.Divided.{Divided}
+use Rattle.delay.specs.PairParts.{divided-start, divided-next}
+use borrow.Author.Needs.{needs}
+use Rattle.delay.proofs.shares.divide.Statement.{statement}
+use Rattle.delay.proofs.shares.divide.Tie as tie
+
+abbrev Inv-loop : tie.InvT-loop
+Inv-loop k n deadline period q₀ remainder₀ l₀ q remainder l = (l ≤ n) × Divided k l deadline period q₀ q remainder₀ remainder
+
+abbrev μ-loop : tie.MeasureT-loop
+μ-loop k n deadline period q₀ remainder₀ l₀ q remainder l = n - l
+
+loop-holds : tie.Need-loop-holds Inv-loop μ-loop
+loop-holds c = (search needs, divided-start _ _ _ _ _ (c .pre .1 .0) (c .pre .1 .1))
+
+mul-quotient : tie.Need-mul-quotient Inv-loop μ-loop
+mul-quotient c = search needs
+
+element-copy-out-quotient : tie.Need-element-copy-out-quotient Inv-loop μ-loop
+element-copy-out-quotient c = search needs
+
+quotient-requires : tie.Need-quotient-requires Inv-loop μ-loop
+quotient-requires c κs =
+    let b = c .before .before .before in
+    (b .pre .0 .2, b .pre .0 .3 (c .before .before .loop .l) (c .before .loop-test .taken))
+
+mul-q : tie.Need-mul-q Inv-loop μ-loop
+mul-q c = search needs
+
+element-write-q : tie.Need-element-write-q Inv-loop μ-loop
+element-write-q c = search needs
+
+mul-left-over : tie.Need-mul-left-over Inv-loop μ-loop
+mul-left-over c = search needs
+
+element-copy-out-left-over : tie.Need-element-copy-out-left-over Inv-loop μ-loop
+element-copy-out-left-over c = search needs
+
+left-over-requires : tie.Need-left-over-requires Inv-loop μ-loop
+left-over-requires c κs =
+    let b = c .before .before .before .before .before in
+    (b .pre .0 .2, b .pre .0 .3 (c .before .before .before .before .loop .l) (c .before .before .before .loop-test .taken))
+
+mul-remainder : tie.Need-mul-remainder Inv-loop μ-loop
+mul-remainder c = search needs
+
+add-remainder : tie.Need-add-remainder Inv-loop μ-loop
+add-remainder c = search needs
+
+mul-remainder-2 : tie.Need-mul-remainder-2 Inv-loop μ-loop
+mul-remainder-2 c = search needs
+
+element-write-remainder : tie.Need-element-write-remainder Inv-loop μ-loop
+element-write-remainder c = search needs
+
+add-l : tie.Need-add-l Inv-loop μ-loop
+add-l c = search needs
+
+loop-less : tie.Need-loop-less Inv-loop μ-loop
+loop-less c = search needs
+
+loop-again : tie.Need-loop-again Inv-loop μ-loop
+loop-again c =
+    let b = c .before .before .before .before .before .before in
+    let w = c .before .before .before .before .before .loop in
+    (search needs, divided-next (b .args .k) (w .l) (b .args .deadline) _ _ _ _ _ _ _ (omega arith) (omega arith) (w .inv .1) (c .before .before .quotient .ensures) (c .left-over .ensures))
+
+returns : tie.Need-returns Inv-loop μ-loop
+returns c =
+    let e : c .before .loop .l ≡ c .before .before .args .n = omega arith in
+    rw e at (c .before .loop .inv .1)
+
+pub divide-spec : {M : Type 1} → statement M
+divide-spec =
+    tie.close
+    (tie.spec
+    Inv-loop
+    μ-loop
+    loop-holds
+    mul-quotient
+    element-copy-out-quotient
+    quotient-requires
+    mul-q
+    element-write-q
+    mul-left-over
+    element-copy-out-left-over
+    left-over-requires
+    mul-remainder
+    add-remainder
+    mul-remainder-2
+    element-write-remainder
+    add-l
+    loop-less
+    loop-again
+    returns)

@@ -1,0 +1,79 @@
+-- `bounds_at`: each part is the definition's, and the margin is made of two of them. Assumes nothing beyond its `requires`.
+use mathlib.Core.Path.{sym, ap, _∙_}
+use Prim.Native.Nat.{_<_}
+use native.Mathlib.Nat.{le-trans, le-of-eq}
+use native.Mathlib.Omega.{arith}
+use mir.Syntax.{w32}
+use mir.ValLaws.{toZ-ofZ}
+use Rattle.model.specs.declared.kinds.Flow.{Flow}
+use Rattle.model.specs.Sets.{used, work}
+use Rattle.laws.specs.Accepted.{accepted}
+use Rattle.laws.specs.Used.{used-flow}
+use Rattle.delay.specs.Checked.{count-at}
+use Rattle.delay.specs.VerdictParts.{basic-entry, tight-entry, fault-given, bounds-made}
+use borrow.Author.Needs.{needs}
+use Rattle.model.specs.Limits.{mostFlows}
+use Rattle.delay.proofs.verdicts.bounds_at.Statement.{statement}
+use Rattle.delay.proofs.verdicts.bounds_at.Tie as tie
+
+-- the flow's number is within the arrays
+within : (c : tie.Start) → c .args .k < mostFlows
+within c = omega (arith, count-at (c .args .t1) (accepted _ (c .pre .0)))
+
+mul-f : tie.Need-mul-f
+mul-f c = search needs
+
+element-copy-out-f : tie.Need-element-copy-out-f
+element-copy-out-f c = within c
+
+mul-basic : tie.Need-mul-basic
+mul-basic c = search needs
+
+element-copy-out-basic : tie.Need-element-copy-out-basic
+element-copy-out-basic c = within (c .before)
+
+mul-tightened : tie.Need-mul-tightened
+mul-tightened c = search needs
+
+element-copy-out-tightened : tie.Need-element-copy-out-tightened
+element-copy-out-tightened c = within (c .before .before)
+
+work-requires : tie.Need-work-requires
+work-requires c κs = search needs
+
+margin-requires : tie.Need-margin-requires
+unfolding used
+margin-requires c κs =
+    let b = c .before .before .before .before .before .before in
+    let j = b .pre .1 .1 in
+    le-trans (le-of-eq (j .tights (b .args .k))) (j .small (b .args .k))
+
+returns : tie.Need-returns
+unfolding used
+returns c =
+    let b = c .before .before .before .before .before .before .before in
+    let k = b .args .k in
+    let h = b .pre .1 .0 in
+    let u = used-flow (b .args .t1) k h in
+    let s = used (b .args .t1) in
+    bounds-made s k _ _ _ _ _ _
+    (fault-given s (b .args .t3) (b .pre .1 .1) (b .pre .0))
+    (c .before .work .ensures ∙ sym (ap work u))
+    (basic-entry s (b .args .t3) (b .pre .1 .1) (b .pre .0) k h)
+    (tight-entry s (b .args .t3) (b .pre .1 .1) (b .pre .0) k h)
+    (sym (ap (λ (f : Flow). f .deadline) u))
+    (toZ-ofZ w32 (c .margin .result) record { sfits = c .margin .ok } ∙ c .margin .ensures)
+
+pub bounds-at-spec : {M : Type 1} → statement M
+bounds-at-spec =
+    tie.close
+    (tie.spec
+    mul-f
+    element-copy-out-f
+    mul-basic
+    element-copy-out-basic
+    mul-tightened
+    element-copy-out-tightened
+    work-requires
+    margin-requires
+    returns)

@@ -1,0 +1,143 @@
+// Functions over plain numbers: bounds that numbers have by their width, differences that end at 0, the smaller and the larger of two;
+// q and r of two flows; a deadline less a bound; the four bytes of a slot.
+// Grids of numbers, one for each pair of flows, and what the record check's answer says of a set.
+// The tables of the delay tests, the equation's value by them, and that it is the definition's.
+// The answer for all flows at once.
+// The verdicts of both delay tests, and one flow's bounds, from the bounds of all flows.
+ghost use mathlib.Core.Path.{_≡_};
+ghost use Prim.Native.Nat.{_-_, _<_, _≤_};
+ghost use lib.IntN.{_-ℤ_, pos};
+ghost use mathlib.Core.Bool.{_&&_, true};
+ghost use lib.ListN.{getD};
+ghost use Rattle.model.specs.Sets.{used};
+ghost use Rattle.document.specs.Delay.{admits, boundsIf, boundsOf, verdictOf, refusedBounds};
+ghost use Rattle.model.specs.Limits.{mostFlows};
+ghost use Rattle.delay.specs.AllBounds.{AllBoundsOf};
+ghost use Rattle.model.specs.Refusals.{good};
+ghost use Rattle.document.specs.Reader.{recordFault};
+use model::Bounds;
+use model::Fault;
+use model::Flow;
+use model::FlowSet;
+use model::Refusal;
+use model::Span;
+use model::Verdict;
+
+// Deadline less tightened bound, signed.
+pub fn margin(deadline: u16, bound: u32) -> i32
+    requires { ⌜ bound ≤ 272691135 ⌝ }
+    ensures { λ r. ⌜ r ≡ pos deadline -ℤ pos bound ⌝ }
+{
+    (deadline as i32) - (bound as i32)
+}
+
+// Both bounds of every flow and the number of rounds, 0 beyond the last flow.
+pub struct AllBounds {
+    pub fault: Fault,
+    pub basic: [u32; Flow::MOST],
+    pub tightened: [u32; Flow::MOST],
+    pub rounds: u32,
+}
+
+fn both(a: bool, b: bool) -> bool
+    ensures { λ r. ⌜ r ≡ (a && b) ⌝ }
+{
+    if a { b } else { false }
+}
+
+// A test admits when every bound is at most its deadline.
+fn admits(s: FlowSet, bound: [u32; Flow::MOST]) -> bool
+    requires { ⌜ s .count ≤ mostFlows ⌝ }
+    ensures { λ r. ⌜ r ≡ admits (used s) (λ k. getD bound k 0) ⌝ }
+{
+    let n = s.count as usize;
+    let mut all = true;
+    let mut k: usize = 0;
+    while k < n {
+        let f = s.flows[k];
+        let x = bound[k];
+        all = both(all, f.deadline.keeps(x));
+        k += 1;
+    }
+    all
+}
+
+// The verdicts of both tests and the number of rounds, from the bounds of all flows; zeros and "no" for a set that the record check
+// refuses.
+pub fn verdict_of(s: FlowSet, j: AllBounds) -> Verdict
+    requires { ⌜ AllBoundsOf (used s) j ⌝ }
+    ensures { λ r. ⌜ r ≡ verdictOf (used s) ⌝ }
+{
+    let fault = j.fault;
+    let refusal = fault.refusal;
+    if refusal.code() != 0 {
+        return Verdict {
+            fault,
+            basic: false,
+            tightened: false,
+            rounds: 0,
+        };
+    }
+    let basic = j.basic;
+    let tightened = j.tightened;
+    Verdict {
+        fault,
+        basic: admits(s, basic),
+        tightened: admits(s, tightened),
+        rounds: j.rounds,
+    }
+}
+
+// A refused bound is zeros throughout.
+fn refused(fault: Fault) -> Bounds
+    ensures { λ r. ⌜ r ≡ refusedBounds fault ⌝ }
+{
+    Bounds {
+        fault,
+        work: 0,
+        basic: 0,
+        tightened: 0,
+        deadline: Span(0),
+        margin: 0,
+    }
+}
+
+// One flow's bounds, from those of all.
+fn bounds_at(s: FlowSet, k: usize, j: AllBounds) -> Bounds
+    requires { ⌜ good (recordFault (used s) .refusal) ≡ true ⌝ }
+    requires { ⌜ (k < s .count) × AllBoundsOf (used s) j ⌝ }
+    ensures { λ r. ⌜ r ≡ boundsIf (used s) k true ⌝ }
+{
+    let f = s.flows[k];
+    let basic = j.basic[k];
+    let tightened = j.tightened[k];
+    let deadline = f.deadline;
+    let fault = j.fault;
+    Bounds {
+        fault,
+        work: f.work(),
+        basic,
+        tightened,
+        deadline,
+        margin: margin(deadline.0, tightened),
+    }
+}
+
+// C, both bounds, deadline and margin of one flow, from the bounds of all. The record check's refusals come first, then 13.
+pub fn bounds_of(s: FlowSet, k: u16, j: AllBounds) -> Bounds
+    requires { ⌜ AllBoundsOf (used s) j ⌝ }
+    ensures { λ r. ⌜ r ≡ boundsOf (used s) k ⌝ }
+{
+    let fault = j.fault;
+    let refusal = fault.refusal;
+    if refusal.code() != 0 {
+        return refused(fault);
+    }
+    if s.count <= k {
+        return refused(Fault {
+            refusal: Refusal::NoSuchFlow,
+            line: 0,
+        });
+    }
+    bounds_at(s, k as usize, j)
+}

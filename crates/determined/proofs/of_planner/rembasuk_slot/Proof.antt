@@ -1,0 +1,53 @@
+use mathlib.Core.Path.{_∙_, ap₂, sym}
+use mathlib.Core.List.{List}
+use Prim.Native.Nat.{ℕ}
+use lib.ListN.{length}
+use Rattle.document.specs.Program.{slotState, slotBuffer}
+use Rattle.document.specs.Reader.{readText}
+use Prim.{tt}
+use Rattle.determined.proofs.of_planner.rembasuk_slot.Statement.{statement}
+use Rattle.document.specs.ForC.{slotForC}
+use Rattle.determined.proofs.of_planner.rembasuk_slot.Tie as tie
+
+rembasuk-slot-requires : tie.Need-rembasuk-slot-requires
+rembasuk-slot-requires c κs = tt
+
+rembasuk-slot-requires-2 : tie.Need-rembasuk-slot-requires-2
+rembasuk-slot-requires-2 c κs = tt
+
+same-length : tie.Need-same-length
+same-length c = c .before .before .before .before .before .before .before .before .before .before .before .rembasuk-slot .kept .1 .0
+
+same-length-2 : tie.Need-same-length-2
+same-length-2 c = c .before .before .before .before .rembasuk-slot2 .kept .1 .0
+
+same-length-3 : tie.Need-same-length-3
+same-length-3 c = c .before .before .before .before .before .before .before .before .before .before .before .rembasuk-slot .kept .1 .1 .0
+
+same-length-4 : tie.Need-same-length-4
+same-length-4 c = c .before .before .before .before .rembasuk-slot2 .kept .1 .1 .0
+
+returns : tie.Need-returns
+returns c = λ same.
+    let one = c .before .before .before .before .before .before .before .before .before .before .before in
+    let two = c .before .before .before .before in
+    let start = one .before .before .before .before .before .before .before .before in
+    let a = one .rembasuk-slot .ensures in
+    let b = two .rembasuk-slot2 .ensures in
+    let t = start .args .text .now in (
+      a .0 ∙ ap₂ (λ (s x : List ℕ). slotForC t s (length x)) (same .0) (same .1) ∙ sym (b .0),
+      a .1 .0 ∙ ap₂ (λ (s x : List ℕ). slotState (readText t) s (length x)) (same .0) (same .1) ∙ sym (b .1 .0),
+      a .1 .1 ∙ ap₂ (slotBuffer (readText t)) (same .0) (same .1) ∙ sym (b .1 .1),
+    )
+
+pub rembasuk-slot-spec : {M : Type 1} → statement M
+rembasuk-slot-spec =
+    tie.close
+    (tie.spec
+    rembasuk-slot-requires
+    rembasuk-slot-requires-2
+    same-length
+    same-length-2
+    same-length-3
+    same-length-4
+    returns)

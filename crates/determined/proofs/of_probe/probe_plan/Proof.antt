@@ -1,0 +1,38 @@
+use mathlib.Core.Path.{_∙_, ap, sym}
+use mathlib.Core.List.{List}
+use Prim.Native.Nat.{ℕ}
+use lib.ListN.{length}
+use Rattle.probe.specs.Told.{toldWritten}
+use Prim.{tt}
+use Rattle.determined.proofs.of_probe.probe_plan.Statement.{statement}
+use Rattle.document.specs.Program.{planAnswer, planInto}
+use Rattle.determined.proofs.of_probe.probe_plan.Tie as tie
+
+probe-plan-requires : tie.Need-probe-plan-requires
+probe-plan-requires c κs = tt
+
+probe-plan-requires-2 : tie.Need-probe-plan-requires-2
+probe-plan-requires-2 c κs = tt
+
+same-length : tie.Need-same-length
+same-length c = c .before .before .before .before .before .before .probe-plan .kept .1 .0
+
+same-length-2 : tie.Need-same-length-2
+same-length-2 c = c .before .before .probe-plan2 .kept .1 .0
+
+returns : tie.Need-returns
+returns c = λ same.
+    let one = c .before .before .before .before .before .before in
+    let two = c .before .before in
+    let start = one .before .before .before .before .before in
+    let a = one .probe-plan .ensures in
+    let b = two .probe-plan2 .ensures in
+    let t = start .args .input .now in (
+      a .0 ∙ ap (λ (o : List ℕ). toldWritten (planAnswer t (length o))) same ∙ sym (b .0),
+      a .1 ∙ ap (planInto t) same ∙ sym (b .1),
+    )
+
+pub probe-plan-spec : {M : Type 1} → statement M
+probe-plan-spec =
+    tie.close
+    (tie.spec probe-plan-requires probe-plan-requires-2 same-length same-length-2 returns)

@@ -1,0 +1,36 @@
+use mathlib.Core.Path.{_∙_, ap, sym}
+use mathlib.Core.List.{List}
+use Prim.Native.Nat.{ℕ}
+use lib.ListN.{length}
+use Rattle.document.specs.Reader.{writeAnswer, writeInto}
+use Rattle.model.specs.Sets.{used}
+use Prim.{tt}
+use Rattle.determined.proofs.of_text.write.Statement.{statement}
+use Rattle.determined.proofs.of_text.write.Tie as tie
+
+write-requires : tie.Need-write-requires
+write-requires c κs = tt
+
+write-requires-2 : tie.Need-write-requires-2
+write-requires-2 c κs = tt
+
+same-length : tie.Need-same-length
+same-length c = c .before .before .before .before .before .before .write .kept .1 .0
+
+same-length-2 : tie.Need-same-length-2
+same-length-2 c = c .before .before .write2 .kept .1 .0
+
+returns : tie.Need-returns
+returns c = λ same.
+    let one = c .before .before .before .before .before .before in
+    let two = c .before .before in
+    let start = one .before .before .before .before in
+    let a = one .write .ensures in
+    let b = two .write2 .ensures in
+    let s = used (start .args .s) in (
+      a .0 ∙ ap (λ (o : List ℕ). writeAnswer s (length o)) same ∙ sym (b .0),
+      a .1 ∙ ap (writeInto s) same ∙ sym (b .1),
+    )
+
+pub write-spec : {M : Type 1} → statement M
+write-spec = tie.close (tie.spec write-requires write-requires-2 same-length same-length-2 returns)

@@ -1,0 +1,186 @@
+// The records' methods, and the rules of a line and of a record.
+ghost use mathlib.Core.Path.{_≡_};
+use model::ChannelMap;
+use model::Fault;
+use model::Flow;
+use model::FlowSet;
+use model::Limits;
+use model::Refusal;
+use model::Slot;
+use model::Span;
+use model::State;
+
+pub struct TwoSlot(pub Slot, pub Slot);
+
+pub struct TwoSpan(pub Span, pub Span);
+
+pub struct TwoBool(pub bool, pub bool);
+
+pub struct TwoChannelMap(pub ChannelMap, pub ChannelMap);
+
+pub struct TwoU32(pub u32, pub u32);
+
+pub struct TwoFlow(pub Flow, pub Flow);
+
+pub struct TwoFlowSet(pub FlowSet, pub FlowSet);
+
+pub struct TwoState(pub State, pub State);
+
+pub struct TwoLimits(pub Limits, pub Limits);
+
+pub struct TwoU16(pub u16, pub u16);
+
+pub struct TwoRefusal(pub Refusal, pub Refusal);
+
+pub struct TwoFault(pub Fault, pub Fault);
+
+pub fn slot_after(t: Slot, n: Span) -> TwoSlot
+    ensures { λ r. ⌜ r .0 ≡ r .1 ⌝ }
+{
+    let a = t.after(n);
+    let b = t.after(n);
+    TwoSlot(a, b)
+}
+
+pub fn slot_back(t: Slot, n: Span) -> TwoSlot
+    ensures { λ r. ⌜ r .0 ≡ r .1 ⌝ }
+{
+    let a = t.back(n);
+    let b = t.back(n);
+    TwoSlot(a, b)
+}
+
+pub fn slot_release(t: Slot, first: Slot, period: Span) -> TwoSlot
+    ensures { λ r. ⌜ r .0 ≡ r .1 ⌝ }
+{
+    let a = t.release(first, period);
+    let b = t.release(first, period);
+    TwoSlot(a, b)
+}
+
+pub fn slot_since(t: Slot, earlier: Slot) -> TwoSpan
+    ensures { λ r. ⌜ r .0 ≡ r .1 ⌝ }
+{
+    let a = t.since(earlier);
+    let b = t.since(earlier);
+    TwoSpan(a, b)
+}
+
+pub fn span_keeps(d: Span, bound: u32) -> TwoBool
+    ensures { λ r. ⌜ r .0 ≡ r .1 ⌝ }
+{
+    let a = d.keeps(bound);
+    let b = d.keeps(bound);
+    TwoBool(a, b)
+}
+
+pub fn map_new(bits: u16) -> TwoChannelMap
+    ensures { λ r. ⌜ r .0 ≡ r .1 ⌝ }
+{
+    let a = ChannelMap::new(bits);
+    let b = ChannelMap::new(bits);
+    TwoChannelMap(a, b)
+}
+
+pub fn map_ways(map: ChannelMap) -> TwoU32
+    ensures { λ r. ⌜ r .0 ≡ r .1 ⌝ }
+{
+    let a = map.ways();
+    let b = map.ways();
+    TwoU32(a, b)
+}
+
+pub fn flow_blank() -> TwoFlow
+    ensures { λ r. ⌜ r .0 ≡ r .1 ⌝ }
+{
+    let a = Flow::blank();
+    let b = Flow::blank();
+    TwoFlow(a, b)
+}
+
+pub fn flow_links(f: Flow) -> TwoU32
+    ensures { λ r. ⌜ r .0 ≡ r .1 ⌝ }
+{
+    let a = f.links();
+    let b = f.links();
+    TwoU32(a, b)
+}
+
+pub fn flow_work(f: Flow) -> TwoU32
+    ensures { λ r. ⌜ r .0 ≡ r .1 ⌝ }
+{
+    let a = f.work();
+    let b = f.work();
+    TwoU32(a, b)
+}
+
+pub fn flow_first_release(f: Flow) -> TwoSlot
+    ensures { λ r. ⌜ r .0 ≡ r .1 ⌝ }
+{
+    let a = f.first_release();
+    let b = f.first_release();
+    TwoSlot(a, b)
+}
+
+pub fn set_blank() -> TwoFlowSet
+    ensures { λ r. ⌜ r .0 ≡ r .1 ⌝ }
+{
+    let a = FlowSet::blank();
+    let b = FlowSet::blank();
+    TwoFlowSet(a, b)
+}
+
+pub fn state_fresh() -> TwoState
+    ensures { λ r. ⌜ r .0 ≡ r .1 ⌝ }
+{
+    let a = State::fresh();
+    let b = State::fresh();
+    TwoState(a, b)
+}
+
+pub fn limits_all() -> TwoLimits
+    ensures { λ r. ⌜ r .0 ≡ r .1 ⌝ }
+{
+    let a = Limits::all();
+    let b = Limits::all();
+    TwoLimits(a, b)
+}
+
+pub fn refusal_code(refusal: Refusal) -> TwoU16
+    ensures { λ r. ⌜ r .0 ≡ r .1 ⌝ }
+{
+    let a = refusal.code();
+    let b = refusal.code();
+    TwoU16(a, b)
+}
+
+pub fn map_fault(bits: u16) -> TwoRefusal
+    ensures { λ r. ⌜ r .0 ≡ r .1 ⌝ }
+{
+    let a = rules::map_fault(bits);
+    let b = rules::map_fault(bits);
+    TwoRefusal(a, b)
+}
+
+pub fn flow_fault(
+    k: usize,
+    period: u16,
+    deadline: u16,
+    tries: u16,
+    nodes: usize,
+    route: [u16; Flow::MOST_NODES],
+) -> TwoRefusal
+    ensures { λ r. ⌜ r .0 ≡ r .1 ⌝ }
+{
+    let a = rules::flow_fault(k, period, deadline, tries, nodes, route);
+    let b = rules::flow_fault(k, period, deadline, tries, nodes, route);
+    TwoRefusal(a, b)
+}
+
+pub fn record_fault(s: FlowSet) -> TwoFault
+    ensures { λ r. ⌜ r .0 ≡ r .1 ⌝ }
+{
+    let a = rules::record_fault(s);
+    let b = rules::record_fault(s);
+    TwoFault(a, b)
+}

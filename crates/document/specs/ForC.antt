@@ -1,0 +1,60 @@
+-- Document 01, "What is planned, and from what": what C is answered, for every text, flow number, state and buffer. The 68 bytes of a state
+-- and what a slot leaves in both buffers stand in `Program`.
+use mathlib.Core.{Bool.{cond}, List.{List}}
+use Prim.Native.Nat.{ℕ}
+use lib.ListN.{length}
+use Rattle.model.specs.declared.answers.{Reading.{Reading}, Verdict.{Verdict}, Bounds.{Bounds}, Written.{Written}}
+use Rattle.model.specs.declared.answers.{VerdictAnswer.{VerdictAnswer}, BoundsAnswer.{BoundsAnswer}, SlotAnswer.{SlotAnswer}}
+use Rattle.model.specs.{Refusals.{good, refusalNumber}, Sums.{bit}, Sets.{used}}
+use Rattle.document.specs.{Reader.{readText}, Delay.{refusedVerdict, refusedBounds, verdictOf, boundsOf}, Program.{slotLines, slotFault}}
+
+-- the numbers of an answer: the refusal by its number, a test as 1 or 0
+abbrev pub verdictNumbers : Verdict → VerdictAnswer
+verdictNumbers v =
+    record {
+      refusal = refusalNumber (v .fault .refusal);
+      line = v .fault .line;
+      basic = bit (v .basic);
+      tightened = bit (v .tightened);
+      rounds = v .rounds;
+    }
+
+abbrev pub boundsNumbers : Bounds → BoundsAnswer
+boundsNumbers b =
+    record {
+      refusal = refusalNumber (b .fault .refusal);
+      line = b .fault .line;
+      work = b .work;
+      basic = b .basic;
+      tightened = b .tightened;
+      deadline = b .deadline .0;
+      margin = b .margin;
+    }
+
+abbrev pub slotNumbers : Written → SlotAnswer
+slotNumbers w = record { refusal = refusalNumber (w .fault .refusal); line = w .fault .line; length = w .length }
+
+-- a set handed over as text is read before anything else is tested, with the reader's refusals
+unfoldable pub verdictOfReading : Reading → Verdict
+verdictOfReading r = cond (good (r .fault .refusal)) (verdictOf (used (r .set))) (refusedVerdict (r .fault))
+
+unfoldable pub boundsOfReading : Reading → ℕ → Bounds
+boundsOfReading r flow = cond (good (r .fault .refusal)) (boundsOf (used (r .set)) flow) (refusedBounds (r .fault))
+
+-- one slot: the fault, and how many bytes of the second buffer are the slot's lines
+unfoldable pub slotAnswer : Reading → List ℕ → ℕ → Written
+slotAnswer r state room =
+    record {
+      fault = slotFault r state room;
+      length = cond (good (slotFault r state room .refusal)) (length (slotLines (used (r .set)) state)) 0;
+    }
+
+-- the three calls
+unfoldable pub verdictForC : List ℕ → VerdictAnswer
+verdictForC text = verdictNumbers (verdictOfReading (readText text))
+
+unfoldable pub boundsForC : List ℕ → ℕ → BoundsAnswer
+boundsForC text flow = boundsNumbers (boundsOfReading (readText text) flow)
+
+unfoldable pub slotForC : List ℕ → List ℕ → ℕ → SlotAnswer
+slotForC text state room = slotNumbers (slotAnswer (readText text) state room)

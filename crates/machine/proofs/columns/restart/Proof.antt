@@ -1,0 +1,86 @@
+-- `restart` gives what each flow's packet has had in turn. Assumes nothing.
+use Rattle.machine.specs.Dues.{hadIn, sum-fits}
+use Rattle.machine.specs.Lists.{Through, through-none, through-next}
+use lib.ListN.{getD}
+use native.Mathlib.Nat.{le-refl}
+use native.Mathlib.Omega.{arith}
+use Prim.{tt}
+use mathlib.Core.Bool.{cond}
+use lib.Dec.{eqb}
+use Prim.Native.Nat.{ℕ, _-_, _≤_}
+use mathlib.Core.Path.{_≡_, ap, _∙_}
+use borrow.Author.Needs.{needs}
+use Rattle.machine.proofs.columns.restart.Statement.{statement}
+use Rattle.machine.proofs.columns.restart.Tie as tie
+
+abbrev Inv-loop : tie.InvT-loop
+Inv-loop count t deadline due sent₀ k₀ sent k = (k ≤ count) × Through (λ j. hadIn (getD due j 0) (getD deadline j 0) t (getD sent₀ j 0)) k sent₀ sent
+
+abbrev μ-loop : tie.MeasureT-loop
+μ-loop count t deadline due sent₀ k₀ sent k = count - k
+
+loop-holds : tie.Need-loop-holds Inv-loop μ-loop
+loop-holds c = (search needs, through-none _ _)
+
+mul-t9 : tie.Need-mul-t9 Inv-loop μ-loop
+mul-t9 c = search needs
+
+element-copy-out-t12 : tie.Need-element-copy-out-t12 Inv-loop μ-loop
+element-copy-out-t12 c = search needs
+
+mul-t14 : tie.Need-mul-t14 Inv-loop μ-loop
+mul-t14 c = search needs
+
+element-copy-out-t17 : tie.Need-element-copy-out-t17 Inv-loop μ-loop
+element-copy-out-t17 c = search needs
+
+element-copy-out-had-of : tie.Need-element-copy-out-had-of Inv-loop μ-loop
+element-copy-out-had-of c = search needs
+
+had-of-requires : tie.Need-had-of-requires Inv-loop μ-loop
+had-of-requires c κs = tt
+
+element-write-sent : tie.Need-element-write-sent Inv-loop μ-loop
+element-write-sent c = search needs
+
+add-k : tie.Need-add-k Inv-loop μ-loop
+add-k c = search needs
+
+loop-less : tie.Need-loop-less Inv-loop μ-loop
+loop-less c = search needs
+
+loop-again : tie.Need-loop-again Inv-loop μ-loop
+loop-again c =
+    let v = c .before .before .before .before .before .loop in
+    let b = c .before .before .before .before .before .before in
+    let a = b .args in
+    let d = getD (a .deadline .now) (v .k) 0 in
+    let w = b .pre .1 (v .k) (search needs) in
+    let m = sum-fits (a .t) d (b .pre .0 .1) w in
+    let f = ap (λ (x : ℕ). cond (eqb x (getD (a .due .now) (v .k) 0)) 0 (getD (v .sent) (v .k) 0)) m in
+    let e = c .had-of .ensures ∙ f ∙ ap (λ (n : ℕ). hadIn (getD (a .due .now) (v .k) 0) d (a .t) n) (v .inv .1 .above (v .k) (le-refl (v .k))) in
+    (search needs, through-next _ (v .k) _ _ _ (omega arith) e (v .inv .1))
+
+returns : tie.Need-returns Inv-loop μ-loop
+returns c =
+    let e : c .before .loop .k ≡ c .before .before .args .count = search needs in
+    rw (← e) (c .before .loop .inv .1)
+
+pub restart-spec : {M : Type 1} → statement M
+restart-spec =
+    tie.close
+    (tie.spec
+    Inv-loop
+    μ-loop
+    loop-holds
+    mul-t9
+    element-copy-out-t12
+    mul-t14
+    element-copy-out-t17
+    element-copy-out-had-of
+    had-of-requires
+    element-write-sent
+    add-k
+    loop-less
+    loop-again
+    returns)

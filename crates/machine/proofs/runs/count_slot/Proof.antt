@@ -1,0 +1,42 @@
+-- `count_slot` chooses and counts what was chosen. Assumes nothing.
+use Rattle.machine.specs.Lists.{getD-zeros}
+use Rattle.machine.specs.Choice.{Choice}
+use Rattle.model.specs.Sets.{memb}
+use Rattle.model.specs.Sums.{bit}
+use lib.ListN.{getD}
+use mathlib.Core.List.{List}
+use native.Mathlib.Nat.{le-refl}
+use native.Mathlib.Omega.{arith}
+use Prim.Native.Nat.{ℕ, _≤_}
+use mathlib.Core.Bool.{Bool, true, false}
+use mathlib.Core.Path.{refl}
+use borrow.Author.Needs.{needs}
+use Rattle.model.specs.Limits.{mostFlows}
+use Rattle.machine.proofs.runs.count_slot.Statement.{statement}
+use Rattle.machine.proofs.runs.count_slot.Tie as tie
+
+mark-le : (placed chosen marked : List ℕ) (n : ℕ) → Choice placed chosen marked n → (k : ℕ) → getD marked k 0 ≤ 1
+mark-le placed chosen marked n c k = rw (c .marks k) (go (memb k placed))
+  where
+    go : (b : Bool) → bit b ≤ 1
+    go true = le-refl 1
+    go false = omega arith
+
+choose-requires : tie.Need-choose-requires
+choose-requires c κs =
+    let p = c .before .before .before .pre in
+    ((p .0 .1, p .0 .3, p .0 .4, refl, refl), (getD-zeros mostFlows, (p .1 .0, p .1 .1 .1)))
+
+tally-requires : tie.Need-tally-requires
+tally-requires c κs =
+    let p = c .before .before .before .before .before .before .pre in
+    ((p .0 .0, p .0 .5), λ k. (p .1 .1 .0 k, mark-le _ _ _ _ (c .before .before .choose .ensures .0) k))
+
+left-of-requires : tie.Need-left-of-requires
+left-of-requires c κs = search needs
+
+returns : tie.Need-returns
+returns c = search needs
+
+pub count-slot-spec : {M : Type 1} → statement M
+count-slot-spec = tie.close (tie.spec choose-requires tally-requires left-of-requires returns)

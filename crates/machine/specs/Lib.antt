@@ -1,0 +1,16 @@
+pub mod Channels
+pub mod Dues
+pub mod Lists
+pub mod Order
+pub mod Choice
+pub mod SlotAnswers
+pub mod States
+pub mod StepLines
+pub mod Links
+pub mod RunKept
+pub mod PlaceOne
+pub mod Slots
+pub mod Releases
+pub mod AfterChoice
+pub mod Runs
+pub mod RunSoFar

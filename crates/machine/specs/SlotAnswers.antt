@@ -1,0 +1,170 @@
+-- A slot's answer from arrays: its sends, deliveries, drops and the next counts are the machine's.
+use mathlib.Core.Path.{_≡_, refl, sym, ap, ap₂, _∙_, fun-ext}
+use mathlib.Core.Bool.{Bool, true, false, _&&_, cond}
+use mathlib.Core.List.{List, [], _∷_, _++_}
+use Prim.Native.Nat.{ℕ, suc, _+_, _-_, _/_, _%_, _≤_, _<_}
+use native.Mathlib.Nat.{add-zero}
+use native.Mathlib.Numerals.{add-one}
+use native.Mathlib.Omega.{arith}
+use borrow.Author.Tests.{ltb-true, ltb-false}
+use lib.Dec.{leb, ltb, eqb}
+use lib.ListN.{length, getD, take, set}
+use lib.Seq.{length-take-le, take-suc}
+use Rattle.model.specs.declared.kinds.FlowSet.{FlowSet}
+use Rattle.model.specs.declared.kinds.Slot.{Slot}
+use Rattle.model.specs.declared.kinds.State.{State}
+use Rattle.model.specs.declared.answers.Send.{Send}
+use Rattle.model.specs.declared.answers.Delivery.{Delivery}
+use Rattle.model.specs.Limits.{lastSlot, mostChannels, mostFlows}
+use Rattle.model.specs.Sums.{bit}
+use Rattle.model.specs.Sets.{flowAt, memb, filterTo, work}
+use Rattle.document.specs.Machine.{releaseAt, countAt, hadAt, placedAt, radioChannel, sendOf, sendsFrom, countAfter, deliveredAt, deliveriesOf, droppedAt, nextState, filled, noSend, noDelivery, countWith, deliveredWith, droppedWith, nextWith}
+use Rattle.machine.specs.Lists.{Through, is-listTo, filled-put, filter-hit}
+use Rattle.machine.specs.Dues.{Tables, Seen, next-is}
+use Rattle.machine.specs.Order.{Each}
+use Rattle.machine.specs.Choice.{Choice, placed-ready}
+
+-- the transmission of flow k with n had, at this offset
+abbrev pub sendIn : ℕ → Slot → List ℕ → List (List ℕ) → ℕ → ℕ → ℕ → Send
+sendIn m t tries routes k n o =
+    record {
+      slot = t;
+      flow = k;
+      from = getD (getD routes k []) (n / getD tries k 0) 0;
+      to = getD (getD routes k []) (n / getD tries k 0 + 1) 0;
+      attempt = n % getD tries k 0;
+      offset = o;
+      channel = radioChannel m (t .0) o;
+    }
+
+-- the placed flows' transmissions, each at the next offset
+unfoldable pub sendsOf : (ℕ → ℕ → Send) → ℕ → List ℕ → List Send
+sendsOf send o [] = []
+sendsOf send o (k ∷ ks) = send k o ∷ sendsOf send (o + 1) ks
+
+pub sends-more : (send : ℕ → ℕ → Send) (o : ℕ) (ks : List ℕ) (k : ℕ) → sendsOf send o (ks ++ (k ∷ [])) ≡ sendsOf send o ks ++ (send k (o + length ks) ∷ [])
+unfolding sendsOf
+sends-more send o [] k = rw add-zero
+sends-more send o (x ∷ ks) k =
+    let e : o + 1 + length ks ≡ o + suc (length ks) = omega arith in
+    ap (λ r. send x o ∷ r) (sends-more send (o + 1) ks k ∙ ap (λ (z : ℕ). sendsOf send (o + 1) ks ++ (send k z ∷ [])) e)
+
+pub length-sends : (send : ℕ → ℕ → Send) (o : ℕ) (ks : List ℕ) → length (sendsOf send o ks) ≡ length ks
+unfolding sendsOf
+length-sends send o [] = refl
+length-sends send o (k ∷ ks) = ap suc (length-sends send (o + 1) ks)
+
+-- which are the machine's, if each is
+pub sends-by : (P : ℕ → Type 0) (s : FlowSet) (st : State) (send : ℕ → ℕ → Send) → ((k o : ℕ) → P k → send k o ≡ sendOf s st k o)
+    → (o : ℕ) (ks : List ℕ) → Each P ks → sendsOf send o ks ≡ sendsFrom s st o ks
+unfolding sendsOf sendsFrom
+sends-by P s st send h o [] e = refl
+sends-by P s st send h o (k ∷ ks) e =
+    ap₂ (λ (x : Send) (r : List Send). x ∷ r) (h k o (e .0)) (sends-by P s st send h (o + 1) ks (e .1))
+
+pub length-from : (s : FlowSet) (st : State) (o : ℕ) (ks : List ℕ) → length (sendsFrom s st o ks) ≡ length ks
+unfolding sendsFrom
+length-from s st o [] = refl
+length-from s st o (k ∷ ks) = ap suc (length-from s st (o + 1) ks)
+
+-- delivered and dropped, by arrays
+abbrev pub deliveredBy : List ℕ → List ℕ → List ℕ → ℕ → Bool
+deliveredBy sent work marked k = eqb (getD marked k 0) 1 && eqb (getD sent k 0 + 1) (getD work k 0)
+
+abbrev pub delayIn : ℕ → ℕ → ℕ → ℕ
+delayIn t due d = t - (due - d) + 1
+
+abbrev pub deliveryIn : ℕ → ℕ → Delivery
+deliveryIn k x = record { flow = k; delay = record { 0 = x } }
+
+unfoldable pub deliveriesBy : ℕ → List ℕ → List ℕ → List ℕ → List Delivery
+deliveriesBy t deadline due [] = []
+deliveriesBy t deadline due (k ∷ ks) = deliveryIn k (delayIn t (getD due k 0) (getD deadline k 0)) ∷ deliveriesBy t deadline due ks
+
+pub deliveries-more : (t : ℕ) (deadline due ks : List ℕ) (k : ℕ)
+    → deliveriesBy t deadline due (ks ++ (k ∷ [])) ≡ deliveriesBy t deadline due ks ++ (deliveryIn k (delayIn t (getD due k 0) (getD deadline k 0)) ∷ [])
+unfolding deliveriesBy
+deliveries-more t deadline due [] k = refl
+deliveries-more t deadline due (x ∷ ks) k =
+    ap (λ r. deliveryIn x (delayIn t (getD due x 0) (getD deadline x 0)) ∷ r) (deliveries-more t deadline due ks k)
+
+pub length-deliveries : (t : ℕ) (deadline due ks : List ℕ) → length (deliveriesBy t deadline due ks) ≡ length ks
+unfolding deliveriesBy
+length-deliveries t deadline due [] = refl
+length-deliveries t deadline due (k ∷ ks) = ap suc (length-deliveries t deadline due ks)
+
+abbrev pub droppedBy : ℕ → List ℕ → List ℕ → List ℕ → List ℕ → List ℕ → ℕ → Bool
+droppedBy t start due sent work marked k =
+    leb (getD start k 0) t && eqb (t + 1) (getD due k 0) && ltb (getD sent k 0 + getD marked k 0) (getD work k 0)
+
+-- a count after the slot
+pub count-after : (s : FlowSet) (st : State) (k : ℕ) → countAfter s st k ≡ hadAt s st k + bit (memb k (placedAt s st))
+unfolding countWith
+count-after s st k = next-is (flowAt s k) (st .slot .0) (countAt st k) (memb k (placedAt s st)) (λ e. placed-ready s st k e .1)
+
+module _ (s : FlowSet) (st : State) (start deadline work due sent : List ℕ) (t : Tables s start deadline work) (v : Seen s st due sent) where
+  pub deliveries-by : (ks : List ℕ) → deliveriesBy (st .slot .0) deadline due ks ≡ deliveriesOf s st ks
+  unfolding deliveriesBy deliveriesOf
+  deliveries-by [] = refl
+  deliveries-by (k ∷ ks) =
+      ap₂ (λ (x : ℕ) (r : List Delivery). deliveryIn k (st .slot .0 - x + 1) ∷ r) back (deliveries-by ks)
+    where
+      back : getD due k 0 - getD deadline k 0 ≡ releaseAt (flowAt s k) (st .slot .0)
+      back = rw (v .dues k, t .deadlines k) (omega arith)
+
+  module _ (chosen marked : List ℕ) (n : ℕ) (c : Choice (placedAt s st) chosen marked n) where
+    pub delivered-by : deliveredBy sent work marked ≡ deliveredAt s st
+    unfolding deliveredWith
+    delivered-by = fun-ext (λ k. ap₂ (λ (a b : Bool). a && b) (ap (λ (x : ℕ). eqb x 1) (c .marks k) ∙ one (memb k (placedAt s st))) (ap₂ (λ (x y : ℕ). eqb (x + 1) y) (v .hads k) (t .works k)))
+      where
+        one : (b : Bool) → eqb (bit b) 1 ≡ b
+        one true = refl
+        one false = refl
+
+    pub after-by : (k : ℕ) → getD sent k 0 + getD marked k 0 ≡ countAfter s st k
+    after-by k = ap₂ (λ (x y : ℕ). x + y) (v .hads k) (c .marks k) ∙ sym (count-after s st k)
+
+    pub dropped-by : droppedBy (st .slot .0) start due sent work marked ≡ droppedAt s st
+    unfolding droppedWith
+    dropped-by = fun-ext (λ k. rw (t .starts k, v .dues k, t .works k, after-by k))
+
+    -- an array with each flow's next count is the next state's
+    pub next-by : (counts : List ℕ) → length sent ≡ mostFlows → ((k : ℕ) → s .count ≤ k → getD sent k 0 ≡ 0)
+        → Through (λ k. getD sent k 0 + getD marked k 0) (s .count) sent counts → counts ≡ nextState s st .sent
+    unfolding nextWith
+    next-by counts l z h =
+        is-listTo (λ k. cond (ltb k (s .count)) (countAfter s st k) 0) mostFlows counts (h .long ∙ l) (λ k i. at k (ltb k (s .count)) refl)
+      where
+        at : (k : ℕ) (b : Bool) → ltb k (s .count) ≡ b → getD counts k 0 ≡ cond b (countAfter s st k) 0
+        at k true e = h .below k (ltb-true _ _ e) ∙ after-by k
+        at k false e = let f = ltb-false _ _ e in h .above k f ∙ z k f
+
+-- a packet that is released, with its deadline to come, within 16 bits
+pub record Delayed (t due d : ℕ) : Type 0 where
+  pub released : d ≤ due
+  pub begun : due ≤ t + d
+  pub in-time : t < due
+  pub small : d ≤ 65535
+  pub slot-le : t ≤ lastSlot
+
+-- the next send of an array
+pub sends-put : (send : ℕ → ℕ → Send) (chosen : List ℕ) (i : ℕ) (array : List Send) (x : Send) → i < mostChannels → i < length chosen
+    → array ≡ filled mostChannels noSend (sendsOf send 0 (take i chosen)) → x ≡ send (getD chosen i 0) i
+    → set array i x ≡ filled mostChannels noSend (sendsOf send 0 (take (i + 1) chosen))
+sends-put send chosen i array x h k e f =
+    let l : length (sendsOf send 0 (take i chosen)) ≡ i = length-sends send 0 (take i chosen) ∙ length-take-le i chosen (omega arith) in
+    let o : 0 + length (take i chosen) ≡ i = omega (arith, length-take-le i chosen (omega arith)) in
+    let w : sendsOf send 0 (take (i + 1) chosen) ≡ sendsOf send 0 (take i chosen) ++ (x ∷ []) =
+    rw (add-one, take-suc chosen i 0 k, sends-more send 0 (take i chosen) (getD chosen i 0), o, f) in
+    rw w (filled-put mostChannels noSend (sendsOf send 0 (take i chosen)) array i x e (sym l) (rw l h))
+
+-- the next delivery of an array
+pub deliveries-put : (p : ℕ → Bool) (t : ℕ) (deadline due : List ℕ) (k n : ℕ) (array : List Delivery) (x : Delivery) → p k ≡ true → length (filterTo p k) < mostChannels
+    → n ≡ length (filterTo p k) → array ≡ filled mostChannels noDelivery (deliveriesBy t deadline due (filterTo p k))
+    → x ≡ deliveryIn k (delayIn t (getD due k 0) (getD deadline k 0))
+    → set array n x ≡ filled mostChannels noDelivery (deliveriesBy t deadline due (filterTo p (k + 1)))
+deliveries-put p t deadline due k n array x h l e f g =
+    let d : List ℕ = filterTo p k in
+    let m : length (deliveriesBy t deadline due d) ≡ length d = length-deliveries t deadline due d in
+    rw (filter-hit p k h, deliveries-more t deadline due d k, g)
+    (filled-put mostChannels noDelivery (deliveriesBy t deadline due d) array n (deliveryIn k (delayIn t (getD due k 0) (getD deadline k 0))) f (e ∙ sym m) (rw m l))

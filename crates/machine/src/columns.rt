@@ -1,0 +1,118 @@
+// Functions over plain numbers: bounds that numbers have by their width, differences that end at 0, the smaller and the larger of two;
+// q and r of two flows; a deadline less a bound; the four bytes of a slot.
+// The numbers of a set's flows in arrays, and where each flow stands in a slot.
+ghost use mathlib.Core.Path.{_≡_};
+ghost use Prim.Native.Nat.{_+_, _-_, _<_, _≤_, ℕ};
+ghost use lib.ListN.{getD, length, set};
+ghost use Rattle.model.specs.Limits.{lastSlot, mostFlows, mostNodes};
+ghost use mathlib.Core.Bool.{true};
+ghost use Rattle.model.specs.Refusals.{good};
+ghost use Rattle.document.specs.Reader.{recordFault};
+ghost use Rattle.model.specs.Sets.{flowAt, used};
+ghost use Rattle.document.specs.Delay.{workAt};
+ghost use Rattle.machine.specs.Lists.{Through};
+ghost use Rattle.machine.specs.Links.{Routes};
+ghost use Rattle.machine.specs.Dues.{dueIn, hadIn};
+use crate::packets::due_of;
+use crate::packets::had_of;
+use model::Flow;
+use model::FlowSet;
+use model::Slot;
+use model::Span;
+
+// A 16-bit number, with the bound that it has by its width.
+pub fn bounded(x: u16) -> u16
+    ensures { λ r. ⌜ (r ≡ x) × (r ≤ 65535) ⌝ }
+{
+    x
+}
+
+// Flow k's tries and route put in their places. A record says nothing of its array's length, so it is said here.
+fn put_route(
+    k: usize,
+    f: Flow,
+    tries: &mut [u16; Flow::MOST],
+    routes: &mut [[u16; Flow::MOST_NODES]; Flow::MOST],
+)
+    requires { ⌜ (k < mostFlows) × (length (now tries) ≡ mostFlows) × (length (now routes) ≡ mostFlows) ⌝ }
+    ensures tries { λ r. ⌜ now (tries .exit) ≡ set (now (tries .entry)) k (f .tries) ⌝ }
+    ensures routes { λ r. ⌜ now (routes .exit) ≡ set (now (routes .entry)) k (f .route) ⌝ }
+    ensures long { λ r. ⌜ length (f .route) ≡ mostNodes ⌝ }
+{
+    let route = f.route;
+    tries[k] = f.tries;
+    routes[k] = route;
+}
+
+// An accepted set's starts, periods, deadlines, C, tries and routes, in the first entries of six arrays.
+pub fn tables(
+    s: FlowSet,
+    start: &mut [u32; Flow::MOST],
+    period: &mut [u16; Flow::MOST],
+    deadline: &mut [u16; Flow::MOST],
+    work: &mut [u8; Flow::MOST],
+    tries: &mut [u16; Flow::MOST],
+    routes: &mut [[u16; Flow::MOST_NODES]; Flow::MOST],
+)
+    requires { ⌜ good (recordFault (used s) .refusal) ≡ true ⌝ }
+    requires { ⌜ (length (now start) ≡ mostFlows) × (length (now period) ≡ mostFlows) × (length (now deadline) ≡ mostFlows) × (length (now work) ≡ mostFlows) × (length (now tries) ≡ mostFlows) × (length (now routes) ≡ mostFlows) ⌝ }
+    ensures starts { λ r. ⌜ Through (λ k. flowAt (used s) k .start) (s .count) (now (start .entry)) (now (start .exit)) ⌝ }
+    ensures periods { λ r. ⌜ Through (λ k. flowAt (used s) k .period .0) (s .count) (now (period .entry)) (now (period .exit)) ⌝ }
+    ensures deadlines { λ r. ⌜ Through (λ k. flowAt (used s) k .deadline .0) (s .count) (now (deadline .entry)) (now (deadline .exit)) ⌝ }
+    ensures works { λ r. ⌜ Through (λ k. workAt (used s) k) (s .count) (now (work .entry)) (now (work .exit)) ⌝ }
+    ensures links { λ r. ⌜ Routes s (now (tries .exit)) (now (routes .exit)) ⌝ }
+    ensures small { λ r. ⌜ ((k : ℕ) → k < s .count → (getD (now (start .exit)) k 0 ≤ 65535) × (getD (now (period .exit)) k 0 ≤ 65535) × (getD (now (deadline .exit)) k 0 ≤ 65535)) ⌝ }
+{
+    let count = s.count as usize;
+    let mut k = 0;
+    while k < count {
+        let f = s.flows[k];
+        let first = f.first_release();
+        start[k] = first.0;
+        period[k] = bounded(f.period.0);
+        deadline[k] = bounded(f.deadline.0);
+        work[k] = f.work() as u8;
+        put_route(k, f, tries, routes);
+        k += 1;
+    }
+}
+
+// Each flow's absolute deadline in slot t.
+pub fn dues(
+    count: usize,
+    t: u32,
+    start: &[u32; Flow::MOST],
+    period: &[u16; Flow::MOST],
+    deadline: &[u16; Flow::MOST],
+    due: &mut [u32; Flow::MOST],
+)
+    requires { ⌜ (count ≤ mostFlows) × (t ≤ lastSlot) × (length (now due) ≡ mostFlows) ⌝ }
+    requires { ⌜ ((k : ℕ) → k < count → (getD (now start) k 0 ≤ 65535) × (getD (now deadline) k 0 ≤ 65535)) ⌝ }
+    ensures { λ r. ⌜ Through (λ k. dueIn (getD (now (start .entry)) k 0) (getD (now (period .entry)) k 0) (getD (now (deadline .entry)) k 0) t) count (now (due .entry)) (now (due .exit)) ⌝ }
+{
+    let mut k = 0;
+    while k < count {
+        let end = due_of(Slot(start[k]), Span(period[k]), Span(deadline[k]), Slot(t));
+        due[k] = end.0;
+        k += 1;
+    }
+}
+
+// Each flow's count, back at 0 in a release slot.
+pub fn restart(
+    count: usize,
+    t: u32,
+    deadline: &[u16; Flow::MOST],
+    due: &[u32; Flow::MOST],
+    sent: &mut [u8; Flow::MOST],
+)
+    requires { ⌜ (count ≤ mostFlows) × (t ≤ lastSlot) × (length (now sent) ≡ mostFlows) ⌝ }
+    requires { ⌜ ((k : ℕ) → k < count → getD (now deadline) k 0 ≤ 65535) ⌝ }
+    ensures { λ r. ⌜ Through (λ k. hadIn (getD (now (due .entry)) k 0) (getD (now (deadline .entry)) k 0) t (getD (now (sent .entry)) k 0)) count (now (sent .entry)) (now (sent .exit)) ⌝ }
+{
+    let mut k = 0;
+    while k < count {
+        sent[k] = had_of(Slot(due[k]), Span(deadline[k]), Slot(t), sent[k]);
+        k += 1;
+    }
+}

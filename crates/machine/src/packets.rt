@@ -1,0 +1,77 @@
+// What the slot machine asks of one packet: its numbers in a slot (absolute deadline, what it has had, delay), whether it is ready,
+// delivered or dropped, the two ends of its link, its place among the deadlines in order, and rule 5's radio channel.
+ghost use mathlib.Core.Path.{_≡_};
+ghost use Prim.Native.Nat.{_+_, _-_, _<_, min};
+ghost use Rattle.machine.specs.Dues.{dueIn, readyIn};
+ghost use mathlib.Core.Bool.{_&&_, cond};
+ghost use lib.Dec.{eqb, leb, ltb};
+use model::Slot;
+use model::Span;
+
+// The absolute deadline of a flow's latest packet, or of its first one before that is released.
+pub fn due_of(first: Slot, period: Span, deadline: Span, t: Slot) -> Slot
+    ensures { λ r. ⌜ r .0 ≡ min (dueIn (first .0) (period .0) (deadline .0) (t .0)) 4294967295 ⌝ }
+{
+    let release = t.release(first, period);
+    release.after(deadline)
+}
+
+// What a packet has had: nothing in its release slot, whatever the count says.
+pub fn had_of(due: Slot, deadline: Span, t: Slot, n: u8) -> u8
+    ensures { λ r. ⌜ r ≡ cond (eqb (min (t .0 + deadline .0) 4294967295) (due .0)) 0 n ⌝ }
+{
+    let end = t.after(deadline);
+    if end.0 == due.0 { 0 } else { n }
+}
+
+// The slots from a packet's release to t, both counted.
+pub fn delay_of(t: Slot, due: Slot, deadline: Span) -> Span
+    ensures { λ r. ⌜ r .0 ≡ min (min (t .0 + 1) 4294967295 - (due .0 - deadline .0)) 65535 ⌝ }
+{
+    let next = t.after(Span(1));
+    let release = due.back(deadline);
+    next.since(release)
+}
+
+// Rule 2: released, before its absolute deadline, and short of C.
+pub fn is_ready(start: u32, due: u32, sent: u8, work: u8, t: u32) -> bool
+    ensures { λ r. ⌜ r ≡ readyIn start due sent work t ⌝ }
+{
+    if t < start {
+        return false;
+    }
+    if due <= t {
+        return false;
+    }
+    sent < work
+}
+
+// Placed, and this was transmission C − 1.
+pub fn is_delivered(marked: u8, sent: u8, work: u8) -> bool
+    ensures { λ r. ⌜ r ≡ (eqb marked 1 && eqb (sent + 1) work) ⌝ }
+{
+    if marked != 1 {
+        return false;
+    }
+    if work <= sent {
+        return false;
+    }
+    work - sent == 1
+}
+
+// In the last slot before its absolute deadline, and still short after it.
+pub fn is_dropped(t: Slot, start: Slot, due: Slot, after: u8, work: u8) -> bool
+    ensures { λ r. ⌜ r ≡ (leb (start .0) (t .0) && eqb (t .0 + 1) (due .0) && ltb after work) ⌝ }
+{
+    if t.0 < start.0 {
+        return false;
+    }
+    if due.0 <= t.0 {
+        return false;
+    }
+    let last = due.back(Span(1));
+    if last.0 == t.0 {
+        return after < work;
+    }
+    false
+}

@@ -1,0 +1,93 @@
+// Parts of a step: rule 4's choice among the ready packets, rule 5's sends, and the answer of a step that is refused for its state.
+ghost use mathlib.Core.Path.{_≡_};
+ghost use mathlib.Core.List.{[]};
+ghost use Rattle.document.specs.Machine.{stepped};
+ghost use Prim.Native.Nat.{_<_};
+ghost use lib.ListN.{getD};
+ghost use mathlib.Core.Bool.{_||_, cond};
+ghost use lib.Dec.{leb, ltb};
+ghost use Rattle.model.specs.Sums.{anyTo};
+ghost use Rattle.model.specs.Limits.{lastSlot, mostFlows};
+ghost use Rattle.model.specs.declared.answers.Refusal.the-variants.{AtLastSlot, BadState};
+ghost use Rattle.model.specs.Refusals.{faultAt, noFault};
+use model::ChannelMap;
+use model::Delivery;
+use model::Fault;
+use model::Flow;
+use model::Refusal;
+use model::Send;
+use model::Slot;
+use model::Span;
+use model::State;
+use model::Stepped;
+
+// A refused step's answer: the state it was given, and an empty slot.
+pub fn refused(fault: Fault, st: State) -> Stepped
+    ensures { λ r. ⌜ r ≡ stepped fault st [] [] [] ⌝ }
+{
+    let send = Send {
+        slot: Slot(0),
+        flow: 0,
+        from: 0,
+        to: 0,
+        attempt: 0,
+        offset: 0,
+        channel: 0,
+    };
+    let delivery = Delivery {
+        flow: 0,
+        delay: Span(0),
+    };
+    let sent = [send; ChannelMap::MOST];
+    let delivered = [delivery; ChannelMap::MOST];
+    let dropped = [0u16; Flow::MOST];
+    Stepped {
+        fault,
+        next: st,
+        sends: 0,
+        sent,
+        deliveries: 0,
+        delivered,
+        drops: 0,
+        dropped,
+    }
+}
+
+// 12: a slot above the last, or a count above its flow's C, which is 0 beyond the last flow.
+fn is_bad(t: u32, sent: &[u8; Flow::MOST], work: &[u8; Flow::MOST]) -> bool
+    ensures { λ r. ⌜ r ≡ (ltb lastSlot t || anyTo (λ k. ltb (getD (now (work .entry)) k 0) (getD (now (sent .entry)) k 0)) mostFlows) ⌝ }
+{
+    if State::LAST < t {
+        return true;
+    }
+    let mut k = 0;
+    while k < Flow::MOST {
+        if work[k] < sent[k] {
+            return true;
+        }
+        k += 1;
+    }
+    false
+}
+
+// What is wrong with a state, by its slot and its counts: 12, then 11.
+pub fn state_fault(t: u32, sent: &[u8; Flow::MOST], work: &[u8; Flow::MOST]) -> Fault
+    ensures { λ r. ⌜ r ≡ cond (ltb lastSlot t || anyTo (λ k. ltb (getD (now (work .entry)) k 0) (getD (now (sent .entry)) k 0)) mostFlows) (faultAt BadState 0) (cond (leb lastSlot t) (faultAt AtLastSlot 0) noFault) ⌝ }
+{
+    if is_bad(t, sent, work) {
+        return Fault {
+            refusal: Refusal::BadState,
+            line: 0,
+        };
+    }
+    if State::LAST <= t {
+        return Fault {
+            refusal: Refusal::AtLastSlot,
+            line: 0,
+        };
+    }
+    Fault {
+        refusal: Refusal::Nothing,
+        line: 0,
+    }
+}

@@ -1,0 +1,64 @@
+use Prim.{tt}
+use mathlib.Core.Path.{_≡_, refl}
+use mathlib.Core.List.{_++_}
+use Prim.Native.Nat.{_+_, _-_}
+use native.Mathlib.Omega.{arith}
+use Rattle.model.specs.Sets.{used}
+use Rattle.document.specs.Program.{boundLines}
+use Rattle.plan_text.specs.BoundText.{boundText}
+use Rattle.text.specs.Put.{Putting, putting-start, putting-more, putting-done}
+use Rattle.plan_text.specs.PlanLines.{bounds-more}
+use borrow.Author.Needs.{needs}
+use Rattle.plan_text.proofs.lines.put_bounds.Statement.{statement}
+use Rattle.plan_text.proofs.lines.put_bounds.Tie as tie
+
+abbrev Inv-loop : tie.InvT-loop
+Inv-loop out₀ at s j n place₀ k₀ out place k = Putting out₀ at (boundLines (used s)) n out place k
+
+abbrev μ-loop : tie.MeasureT-loop
+μ-loop out₀ at s j n place₀ k₀ out place k = n - k
+
+loop-holds : tie.Need-loop-holds Inv-loop μ-loop
+unfolding boundLines
+loop-holds c = putting-start _ _ _ _ refl (omega arith)
+
+bounds-of-requires : tie.Need-bounds-of-requires Inv-loop μ-loop
+bounds-of-requires c κs = c .before .before .before .pre
+
+put-bound-requires : tie.Need-put-bound-requires Inv-loop μ-loop
+put-bound-requires c κs = tt
+
+add-k : tie.Need-add-k Inv-loop μ-loop
+add-k c = search needs
+
+loop-less : tie.Need-loop-less Inv-loop μ-loop
+loop-less c = search needs
+
+loop-again : tie.Need-loop-again Inv-loop μ-loop
+loop-again c =
+    let l = c .before .before .before .before .before .before .loop in
+    let s = c .before .before .before .before .before .before .before .before .args .s in
+    let e : boundLines (used s) (l .k) ++ boundText (l .k) (c .before .before .before .before .bounds-of .result) ≡ boundLines (used s) (l .k + 1) =
+    rw (c .before .before .before .before .bounds-of .ensures) (bounds-more (used s) (l .k)) in
+    putting-more _ _ _ _ _ _ _ (l .inv) _ _ _ (c .before .before .before .before .before .loop-test .taken) (omega arith) e (c .before .before .put-bound .ensures)
+
+same-length : tie.Need-same-length Inv-loop μ-loop
+same-length c = c .before .loop .inv .long
+
+returns : tie.Need-returns Inv-loop μ-loop
+returns c = putting-done _ _ _ _ _ _ _ (c .before .loop .inv) _ (c .loop-test .left) refl
+
+pub put-bounds-spec : {M : Type 1} → statement M
+put-bounds-spec =
+    tie.close
+    (tie.spec
+    Inv-loop
+    μ-loop
+    loop-holds
+    bounds-of-requires
+    put-bound-requires
+    add-k
+    loop-less
+    loop-again
+    same-length
+    returns)

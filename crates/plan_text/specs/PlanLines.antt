@@ -1,0 +1,56 @@
+-- The plan's lines, one more at a time: a flow's bounds; and how long they can be.
+use mathlib.Core.Path.{_≡_, refl, ap}
+use mathlib.Core.Bool.{Bool, true, false}
+use mathlib.Core.List.{List, [], _∷_, _++_}
+use Prim.Native.Nat.{ℕ, zero, suc, _+_, _*_, _≤_, _<_}
+use native.Mathlib.Numerals.{add-one}
+use native.Mathlib.Omega.{arith}
+use lib.IntN.{pos, _-ℤ_}
+use lib.ListN.{length, length-append}
+use Rattle.model.specs.declared.kinds.FlowSet.{FlowSet}
+use Rattle.model.specs.Refusals.{good, noFault}
+use Rattle.model.specs.Sums.{bit}
+use Rattle.model.specs.Sets.{used}
+use Rattle.document.specs.Reader.{recordFault}
+use Rattle.document.specs.Delay.{boundsOf, boundsIf, boundsFault, verdictOf}
+use Rattle.document.specs.Machine.{sendsAt, runOf}
+use Rattle.document.specs.Program.{boundLines, runLines, planOf, verdictWord}
+use Rattle.laws.specs.Accepted.{accepted}
+use Rattle.text.specs.Lengths.{line-le, bounds-le, sends-le}
+use Rattle.plan_text.specs.BoundText.{boundText, bound-text}
+use Rattle.machine.specs.StepLines.{sends-few}
+
+-- the margin is deadline less bound, of a refused answer too
+margin-is : (s : FlowSet) (k : ℕ) → boundsOf s k .margin ≡ pos (boundsOf s k .deadline .0) -ℤ pos (boundsOf s k .tightened)
+unfolding boundsOf
+margin-is s k = go (good (boundsFault s k .refusal))
+  where
+    go : (b : Bool) → boundsIf s k b .margin ≡ pos (boundsIf s k b .deadline .0) -ℤ pos (boundsIf s k b .tightened)
+    go true = refl
+    go false = refl
+
+-- one flow more
+pub bounds-more : (s : FlowSet) (k : ℕ) → boundLines s k ++ boundText k (boundsOf s k) ≡ boundLines s (k + 1)
+unfolding boundLines
+bounds-more s k = rw add-one (ap (λ (l : List ℕ). boundLines s k ++ l) (bound-text k (boundsOf s k) (margin-is s k)))
+
+-- ---- how long a plan can be
+
+run-le : (s : FlowSet) → s .map .0 < 65536 → (n : ℕ) → length (runLines (used s) n) ≤ 1136 * n
+unfolding runLines
+run-le s m zero = omega arith
+run-le s m (suc n) =
+    let a = run-le s m n in
+    let b = sends-few s (runOf (used s) n .last) m in
+    let c = sends-le (sendsAt (used s) (runOf (used s) n .last)) in
+    simp length-append (omega arith)
+
+pub plan-le : (s : FlowSet) → s .map .0 < 65536 → recordFault (used s) ≡ noFault → length (planOf (used s)) ≤ 18432
+unfolding planOf
+plan-le s m h =
+    let g : good (recordFault (used s) .refusal) ≡ true = rw h in
+    let a = line-le verdictWord (bit (verdictOf (used s) .basic) ∷ bit (verdictOf (used s) .tightened) ∷ verdictOf (used s) .rounds ∷ []) in
+    let b = bounds-le (used s) (used s .count) in
+    let c = run-le s m 12 in
+    let d = accepted (used s) g .count-le in
+    simp length-append (omega arith)

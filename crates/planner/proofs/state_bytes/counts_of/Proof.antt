@@ -1,0 +1,58 @@
+use mathlib.Core.List.{[]}
+use native.Mathlib.Omega.{arith}
+use Rattle.planner.specs.StateCopy.{copy-after, copy-all}
+use mathlib.Core.Path.{_≡_}
+use Prim.Native.Nat.{_≤_, _-_}
+use lib.ListN.{length, take, drop, length-drop}
+use borrow.Author.Needs.{needs}
+use Rattle.model.specs.Limits.{mostFlows}
+use Rattle.planner.proofs.state_bytes.counts_of.Statement.{statement}
+use Rattle.planner.proofs.state_bytes.counts_of.Tie as tie
+
+abbrev Inv-loop : tie.InvT-loop
+Inv-loop b sent₀ k₀ sent k = (k ≤ mostFlows) × (length sent ≡ mostFlows) × (take k sent ≡ take k (drop 4 b))
+
+abbrev μ-loop : tie.MeasureT-loop
+μ-loop b sent₀ k₀ sent k = mostFlows - k
+
+loop-holds : tie.Need-loop-holds Inv-loop μ-loop
+loop-holds c = search needs
+
+add-sent : tie.Need-add-sent Inv-loop μ-loop
+add-sent c = search needs
+
+shared-slice-read-sent : tie.Need-shared-slice-read-sent Inv-loop μ-loop
+shared-slice-read-sent c = search needs
+
+array-write-sent : tie.Need-array-write-sent Inv-loop μ-loop
+array-write-sent c = search needs
+
+add-k : tie.Need-add-k Inv-loop μ-loop
+add-k c = search needs
+
+loop-less : tie.Need-loop-less Inv-loop μ-loop
+loop-less c = search needs
+
+loop-again : tie.Need-loop-again Inv-loop μ-loop
+loop-again c =
+    (search needs, search needs, copy-after 4 (c .before .before .before .args .b .now) (c .before .before .loop .sent) (c .before .before .loop .k) (omega arith) (omega arith) (c .before .before .loop .inv .2))
+
+returns : tie.Need-returns Inv-loop μ-loop
+returns c =
+    let h : length (drop 4 (c .before .before .args .b .now)) ≤ c .before .loop .k = simp length-drop (omega arith) in
+    copy-all [] (drop 4 (c .before .before .args .b .now)) (c .before .loop .sent) (c .before .loop .k) (c .before .loop .k) (omega arith) h (c .before .loop .inv .2)
+
+pub counts-of-spec : {M : Type 1} → statement M
+counts-of-spec =
+    tie.close
+    (tie.spec
+    Inv-loop
+    μ-loop
+    loop-holds
+    add-sent
+    shared-slice-read-sent
+    array-write-sent
+    add-k
+    loop-less
+    loop-again
+    returns)

@@ -1,0 +1,65 @@
+use mathlib.Core.Path.{sym}
+use mathlib.Core.List.{append-nil}
+use native.Mathlib.Omega.{arith}
+use Rattle.planner.specs.StateCopy.{copy-more, copy-all}
+use mathlib.Core.Path.{_≡_}
+use mathlib.Core.List.{_++_}
+use Prim.Native.Nat.{_≤_, _-_, _+_}
+use lib.ListN.{length, take}
+use borrow.Author.Needs.{needs}
+use Rattle.model.specs.Limits.{mostFlows}
+use Rattle.planner.proofs.state_bytes.put_counts.Statement.{statement}
+use Rattle.planner.proofs.state_bytes.put_counts.Tie as tie
+
+abbrev Inv-loop : tie.InvT-loop
+Inv-loop b₀ sent k₀ b k = (k ≤ mostFlows) × (length b ≡ 68) × (length sent ≡ mostFlows) × (take (k + 4) b ≡ take 4 b₀ ++ take k sent)
+
+abbrev μ-loop : tie.MeasureT-loop
+μ-loop b₀ sent k₀ b k = mostFlows - k
+
+loop-holds : tie.Need-loop-holds Inv-loop μ-loop
+loop-holds c = (search needs, search needs, c .good .1 .0 .1 .0 .1, sym (append-nil (take 4 (c .args .b .now))))
+
+array-read-b : tie.Need-array-read-b Inv-loop μ-loop
+array-read-b c = search needs
+
+add-b : tie.Need-add-b Inv-loop μ-loop
+add-b c = search needs
+
+slice-write-b : tie.Need-slice-write-b Inv-loop μ-loop
+slice-write-b c = search needs
+
+add-k : tie.Need-add-k Inv-loop μ-loop
+add-k c = search needs
+
+loop-less : tie.Need-loop-less Inv-loop μ-loop
+loop-less c = search needs
+
+loop-again : tie.Need-loop-again Inv-loop μ-loop
+loop-again c =
+    let k = c .before .loop .k in
+    let e : k + 1 + 4 ≡ k + 4 + 1 = omega arith in
+    (search needs, search needs, c .before .loop .inv .2, rw e (copy-more (take 4 (c .before .before .args .b .now)) (c .before .before .args .t2) (c .before .loop .b) (k + 4) k (omega arith) (omega arith) (c .before .loop .inv .3)))
+
+same-length : tie.Need-same-length Inv-loop μ-loop
+same-length c = search needs
+
+returns : tie.Need-returns Inv-loop μ-loop
+returns c =
+    copy-all (take 4 (c .before .before .args .b .now)) (c .before .before .args .t2) (c .before .loop .b) (c .before .loop .k + 4) (c .before .loop .k) (omega arith) (omega arith) (c .before .loop .inv .3)
+
+pub put-counts-spec : {M : Type 1} → statement M
+put-counts-spec =
+    tie.close
+    (tie.spec
+    Inv-loop
+    μ-loop
+    loop-holds
+    array-read-b
+    add-b
+    slice-write-b
+    add-k
+    loop-less
+    loop-again
+    same-length
+    returns)

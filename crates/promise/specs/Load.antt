@@ -1,0 +1,116 @@
+-- One flow's load in another's window: the flow's packets come T slots apart and each has at most M marked slots, all of them within v of its
+-- release, so a window that ends v after a release holds M for each whole period and at most M, and at most its slots, of the rest.
+use mathlib.Core.Path.{_≡_, ap}
+use mathlib.Core.Bool.{Bool, true, _&&_}
+use Prim.Native.Nat.{ℕ, zero, suc, _+_, _-_, _*_, _/_, _%_, _≤_, _<_, min}
+use native.Mathlib.Nat.{
+  mul-le-mul-right,
+  le-div-iff-mul-le,
+  div-add-mod',
+  div-mul-le-self,
+  lt-div-mul-add,
+  mod-lt,
+  div-eq-of-lt-le,
+}
+use native.Mathlib.Decide.{decLe}
+use native.Mathlib.Omega.{arith}
+use lib.Dec.{leb}
+use borrow.Author.Tests.{leb-true}
+use Rattle.laws.specs.Sums.{count, count-in, count-none, bits-le, count-split, and-l, and-r}
+
+-- the release of a flow's latest packet at slot t, for t not before its start a
+abbrev pub release : ℕ → ℕ → ℕ → ℕ
+release a T t = a + (t - a) / T * T
+
+-- it is not later than t
+pub release-le : (a T t : ℕ) → a ≤ t → release a T t ≤ t
+release-le a T t h = omega (arith, div-mul-le-self (t - a) T)
+
+-- and less than a period before t
+pub release-lt : (a T t : ℕ) → 0 < T → t < release a T t + T
+release-lt a T t h = omega (arith, lt-div-mul-add {a = t - a} h)
+
+-- in the T slots from the release of packet j on, that release is the latest
+pub release-eq : (a T j t : ℕ) → a + j * T ≤ t → t < a + j * T + T → release a T t ≡ a + j * T
+release-eq a T j t h k = rw (div-eq-of-lt-le {k = j} T {m = t - a} (omega arith) (omega arith))
+
+-- a flow's share of a window of x slots, for M marked transmissions a packet that all come within v: M for each whole period; of the rest
+-- at most M, and at most the slots less the D − v before a deadline, which stay free
+unfoldable pub share : ℕ → ℕ → ℕ → ℕ → ℕ → ℕ
+share x T D v M = x / T * M + min M (x % T - (D - v))
+
+-- A flow's marked slots: at most M in the period of each packet, and only within v of a release.
+pub record Marked (a T D v M : ℕ) (s : ℕ → Bool) : Type 0 where
+  pub period : 0 < T
+  pub limit : v ≤ D
+  pub deadline : D ≤ T
+  pub few : (j : ℕ) → count s (a + j * T) T ≤ M
+  pub early : (t : ℕ) → s t ≡ true → (a ≤ t) × (t < release a T t + v)
+
+module _ {a T D v M : ℕ} {s : ℕ → Bool} (f : Marked a T D v M s) where
+  -- at most T slots that end v after the release of packet j hold marks of packet j alone
+  end-le : (j r n : ℕ) → r + n ≡ a + j * T + v → n ≤ T → count s r n ≤ M
+  end-le j r n e l = omega (arith, f .few j, count-in s s r n (a + j * T) T (λ t k h i. (from t k i, omega arith, i)))
+    where
+      from : (t : ℕ) → r ≤ t → s t ≡ true → a + j * T ≤ t
+      from t k i =
+          let w = f .early t i in
+          let x = release-le a T t (w .0) in
+          elim (decLe j ((t - a) / T)) [
+            | yes h ↦ omega (arith, mul-le-mul-right T h)
+            | no h ↦
+                let g : suc ((t - a) / T) ≤ j = omega arith in omega (arith, mul-le-mul-right T g)
+          ]
+
+  -- a window that ends there holds M for each whole period; of the rest it holds at most M, and at most the slots
+  window-le : (q y j r n : ℕ) → r + n ≡ a + j * T + v → y ≤ T → n ≤ q * T + y → count s r n ≤ q * M + min M y
+  window-le zero y j r n e k l = omega (arith, end-le j r n e (omega arith), bits-le (λ i. s (r + i)) n)
+  window-le (suc q) y j r n e k l = go (λ i x c b. window-le q y i r x c k b) (decLe n T) j e
+    where
+      -- the last T slots apart
+      peel : (j c : ℕ) → r + n ≡ a + j * T + v → T < n → count s r (n - T) ≤ c → count s r n ≤ c + M
+      peel j c e h p =
+          let x : n ≡ n - T + T = omega arith in
+          omega (arith, ap (λ (z : ℕ). count s r z) x, count-split s r (n - T) T, end-le j (r + (n - T)) T (omega arith) (omega arith))
+
+      go : ((i x : ℕ) → r + x ≡ a + i * T + v → x ≤ q * T + y → count s r x ≤ q * M + min M y) → Dec (n ≤ T) → (j : ℕ)
+          → r + n ≡ a + j * T + v → count s r n ≤ suc q * M + min M y
+      go ih (yes h) j e = omega (arith, end-le j r n e h)
+      go ih (no h) zero e =
+          let z = count-none s r (n - T) (λ t x y i. omega (arith, f .early t i)) in omega (arith, peel 0 0 e (omega arith) (omega arith))
+      go ih (no h) (suc j) e =
+          omega (arith, peel (suc j) (q * M + min M y) e (omega arith) (ih j (n - T) (omega arith) (omega arith)))
+
+  -- slots that end with packet j, whose deadline is in the first x slots of the window
+  ending-le : (j r h x : ℕ) (p : ℕ → Bool) → a + j * T + D ≤ r + x
+      → ((t : ℕ) → r ≤ t → p t ≡ true → (t < a + j * T + v) × (s t ≡ true)) → count p r h ≤ share x T D v M
+  unfolding share
+  ending-le j r h x p d k =
+      let n : ℕ = a + j * T + v - r in
+      let u : ℕ = a + j * T + v - n in
+      omega (
+        arith,
+        count-in p s r h u n (λ t l g i. (omega arith, omega (arith, k t l i), k t l i .1)),
+        window-le (x / T) (x % T - (D - v)) j u n (omega arith) (omega (arith, mod-lt x (f .period))) (omega (arith, div-add-mod' x T)),
+      )
+
+  -- the marked slots of a window whose packets have their deadline in the first x slots of the window
+  pub load-le : (r h x : ℕ) → count (λ t. s t && leb (release a T t + D) (r + x)) r h ≤ share x T D v M
+  load-le r h x =
+      elim (decLe (a + D) (r + x)) [
+        | yes k ↦ ending-le ((r + x - (a + D)) / T) r h x due (omega (arith, div-mul-le-self (r + x - (a + D)) T)) ends
+        | no k ↦ omega (arith, count-none due r h (λ t l g i. omega (arith, by t i)))
+      ]
+    where
+      due : ℕ → Bool
+      due t = s t && leb (release a T t + D) (r + x)
+
+      by : (t : ℕ) → due t ≡ true → release a T t + D ≤ r + x
+      by t i = leb-true _ _ (and-r (s t) _ i)
+
+      -- no packet is later than the last with its deadline there
+      ends : (t : ℕ) → r ≤ t → due t ≡ true → (t < a + (r + x - (a + D)) / T * T + v) × (s t ≡ true)
+      ends t l i =
+          let g = and-l (s t) _ i in
+          let b : (t - a) / T * T ≤ r + x - (a + D) = omega (arith, by t i) in
+          let c = mul-le-mul-right T (le-div-iff-mul-le (f .period) .1 b) in (omega (arith, f .early t g), g)

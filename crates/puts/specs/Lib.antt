@@ -1,3 +1,0 @@
-pub mod Stores
-pub mod Sends
-pub mod Lengths

@@ -1,0 +1,67 @@
+-- `line_at` compares the word byte by byte; what is left of it says the rest (`Spelling`), and then the line is one of numbers.
+-- The measure is what is left of the word. Assumes nothing.
+use mathlib.Core.Path.{sym, _∙_}
+use Prim.Native.Nat.{_-_}
+use native.Mathlib.Omega.{arith}
+use lib.ListN.{length}
+use Rattle.text.specs.Rows.{Spelling, spelling-start, spelling-more, spelling-inside, spelling-refused, spelling-row}
+use borrow.Author.Needs.{needs}
+use Rattle.text.proofs.line.line_at.Statement.{statement}
+use Rattle.text.proofs.line.line_at.Tie as tie
+
+abbrev Inv-loop : tie.InvT-loop
+Inv-loop s from word at₀ i₀ at i = Spelling s word from i at
+
+abbrev μ-loop : tie.MeasureT-loop
+μ-loop s from word at₀ i₀ at i = length word - i
+
+loop-holds : tie.Need-loop-holds Inv-loop μ-loop
+loop-holds c = spelling-start _ _ _
+
+shared-slice-read-begins : tie.Need-shared-slice-read-begins Inv-loop μ-loop
+shared-slice-read-begins c = search needs
+
+begins-requires : tie.Need-begins-requires Inv-loop μ-loop
+begins-requires c κs = search needs
+
+add-at : tie.Need-add-at Inv-loop μ-loop
+add-at c = omega (arith, spelling-inside _ _ _ _ _ (c .before .before .before .before .loop .inv) (sym (c .before .begins .ensures) ∙ c .if1 .taken))
+
+add-i : tie.Need-add-i Inv-loop μ-loop
+add-i c = search needs
+
+loop-less : tie.Need-loop-less Inv-loop μ-loop
+loop-less c = search needs
+
+loop-again : tie.Need-loop-again Inv-loop μ-loop
+loop-again c = spelling-more _ _ _ _ _ (c .before .before .before .before .loop .inv) (c .before .before .before .loop-test .taken) (sym (c .before .begins .ensures) ∙ c .if1 .taken)
+
+none-requires : tie.Need-none-requires Inv-loop μ-loop
+none-requires c κs = search needs
+
+returns : tie.Need-returns Inv-loop μ-loop
+returns c = c .none .ensures ∙ spelling-refused _ _ _ _ _ (c .before .before .before .before .before .loop .inv) (c .before .before .before .before .loop-test .taken) (sym (c .before .before .begins .ensures) ∙ c .before .if1 .left)
+
+numbers-at-requires : tie.Need-numbers-at-requires Inv-loop μ-loop
+numbers-at-requires c κs = search needs
+
+returns-2 : tie.Need-returns-2 Inv-loop μ-loop
+returns-2 c = c .numbers-at .ensures ∙ spelling-row _ _ _ _ _ (c .before .before .loop .inv) (c .before .loop-test .left)
+
+pub line-at-spec : {M : Type 1} → statement M
+line-at-spec =
+    tie.close
+    (tie.spec
+    Inv-loop
+    μ-loop
+    loop-holds
+    shared-slice-read-begins
+    begins-requires
+    add-at
+    add-i
+    loop-less
+    loop-again
+    none-requires
+    returns
+    numbers-at-requires
+    returns-2)

@@ -1,0 +1,60 @@
+-- `put_fields` puts the numbers in turn (`Putting`). The measure is how many are left. Assumes nothing.
+use mathlib.Core.Path.{refl, ap}
+use Prim.Native.Nat.{_-_}
+use native.Mathlib.Omega.{arith}
+use lib.ListN.{length, take}
+use lib.Seq.{take-length}
+use Rattle.text.specs.Put.{fieldsOf, Putting, putting-start, putting-more, putting-done, fields-next}
+use borrow.Author.Needs.{needs}
+use Rattle.text.proofs.put.put_fields.Statement.{statement}
+use Rattle.text.proofs.put.put_fields.Tie as tie
+
+abbrev Inv-loop : tie.InvT-loop
+Inv-loop out₀ at numbers place₀ i₀ out place i = Putting out₀ at (λ i. fieldsOf (take i numbers)) (length numbers) out place i
+
+abbrev μ-loop : tie.MeasureT-loop
+μ-loop out₀ at numbers place₀ i₀ out place i = length numbers - i
+
+loop-holds : tie.Need-loop-holds Inv-loop μ-loop
+unfolding fieldsOf
+loop-holds c = putting-start _ _ _ _ refl (omega arith)
+
+mul-put-field : tie.Need-mul-put-field Inv-loop μ-loop
+mul-put-field c = search needs
+
+shared-slice-read-put-field : tie.Need-shared-slice-read-put-field Inv-loop μ-loop
+shared-slice-read-put-field c = search needs
+
+put-field-requires : tie.Need-put-field-requires Inv-loop μ-loop
+put-field-requires c κs = search needs
+
+add-i : tie.Need-add-i Inv-loop μ-loop
+add-i c = search needs
+
+loop-less : tie.Need-loop-less Inv-loop μ-loop
+loop-less c = search needs
+
+loop-again : tie.Need-loop-again Inv-loop μ-loop
+loop-again c = putting-more _ _ _ _ _ _ _ (c .before .before .before .before .before .before .loop .inv) _ _ _ (c .before .before .before .before .before .loop-test .taken) (omega arith) (fields-next _ _ (c .before .before .before .before .before .loop-test .taken)) (c .before .before .put-field .ensures)
+
+same-length : tie.Need-same-length Inv-loop μ-loop
+same-length c = search needs
+
+returns : tie.Need-returns Inv-loop μ-loop
+returns c = putting-done _ _ _ _ _ _ _ (c .before .loop .inv) _ (c .loop-test .left) (ap fieldsOf (take-length _))
+
+pub put-fields-spec : {M : Type 1} → statement M
+put-fields-spec =
+    tie.close
+    (tie.spec
+    Inv-loop
+    μ-loop
+    loop-holds
+    mul-put-field
+    shared-slice-read-put-field
+    put-field-requires
+    add-i
+    loop-less
+    loop-again
+    same-length
+    returns)

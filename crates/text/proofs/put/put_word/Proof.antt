@@ -1,0 +1,56 @@
+-- `put_word` puts the bytes of the word in turn (`Putting`). The measure is how many are left. Assumes nothing.
+use mathlib.Core.Path.{refl}
+use Prim.Native.Nat.{_-_}
+use native.Mathlib.Omega.{arith}
+use lib.ListN.{length, take}
+use lib.Seq.{take-length}
+use Rattle.text.specs.Put.{Putting, putting-start, putting-more, putting-done}
+use Rattle.text.specs.DigitsStored.{take-next}
+use borrow.Author.Needs.{needs}
+use Rattle.text.proofs.put.put_word.Statement.{statement}
+use Rattle.text.proofs.put.put_word.Tie as tie
+
+abbrev Inv-loop : tie.InvT-loop
+Inv-loop out₀ at word place₀ i₀ out place i = Putting out₀ at (λ i. take i word) (length word) out place i
+
+abbrev μ-loop : tie.MeasureT-loop
+μ-loop out₀ at word place₀ i₀ out place i = length word - i
+
+loop-holds : tie.Need-loop-holds Inv-loop μ-loop
+loop-holds c = putting-start _ _ _ _ refl (omega arith)
+
+shared-slice-read-put-byte : tie.Need-shared-slice-read-put-byte Inv-loop μ-loop
+shared-slice-read-put-byte c = search needs
+
+put-byte-requires : tie.Need-put-byte-requires Inv-loop μ-loop
+put-byte-requires c κs = search needs
+
+add-i : tie.Need-add-i Inv-loop μ-loop
+add-i c = search needs
+
+loop-less : tie.Need-loop-less Inv-loop μ-loop
+loop-less c = search needs
+
+loop-again : tie.Need-loop-again Inv-loop μ-loop
+loop-again c = putting-more _ _ _ _ _ _ _ (c .before .before .before .before .before .before .loop .inv) _ _ _ (c .before .before .before .before .before .loop-test .taken) (omega arith) (take-next _ _ (c .before .before .before .before .before .loop-test .taken)) (c .before .before .put-byte .ensures)
+
+same-length : tie.Need-same-length Inv-loop μ-loop
+same-length c = search needs
+
+returns : tie.Need-returns Inv-loop μ-loop
+returns c = putting-done _ _ _ _ _ _ _ (c .before .loop .inv) _ (c .loop-test .left) (take-length _)
+
+pub put-word-spec : {M : Type 1} → statement M
+put-word-spec =
+    tie.close
+    (tie.spec
+    Inv-loop
+    μ-loop
+    loop-holds
+    shared-slice-read-put-byte
+    put-byte-requires
+    add-i
+    loop-less
+    loop-again
+    same-length
+    returns)

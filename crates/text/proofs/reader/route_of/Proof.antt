@@ -1,0 +1,61 @@
+-- `route_of` copies the entries from the fourth on, each to its place (`Filled`). Assumes nothing.
+use Prim.Native.Nat.{_-_}
+use mathlib.Core.Path.{refl}
+use Rattle.text.specs.Pads.{Filled, filled-start, filled-more, filled-done}
+use borrow.Author.Needs.{needs}
+use Rattle.model.specs.Limits.{mostNodes}
+use Rattle.text.proofs.reader.route_of.Statement.{statement}
+use Rattle.text.proofs.reader.route_of.Tie as tie
+
+abbrev Inv-loop : tie.InvT-loop
+Inv-loop numbers route₀ i₀ route i = Filled mostNodes 4 numbers route i
+
+abbrev μ-loop : tie.MeasureT-loop
+μ-loop numbers route₀ i₀ route i = mostNodes - i
+
+loop-holds : tie.Need-loop-holds Inv-loop μ-loop
+loop-holds c = filled-start _ _ _ _ refl
+
+add-route : tie.Need-add-route Inv-loop μ-loop
+add-route c = search needs
+
+mul-route : tie.Need-mul-route Inv-loop μ-loop
+mul-route c = search needs
+
+array-read-route : tie.Need-array-read-route Inv-loop μ-loop
+array-read-route c = search needs
+
+mul-route-2 : tie.Need-mul-route-2 Inv-loop μ-loop
+mul-route-2 c = search needs
+
+array-write-route : tie.Need-array-write-route Inv-loop μ-loop
+array-write-route c = search needs
+
+add-i : tie.Need-add-i Inv-loop μ-loop
+add-i c = search needs
+
+loop-less : tie.Need-loop-less Inv-loop μ-loop
+loop-less c = search needs
+
+loop-again : tie.Need-loop-again Inv-loop μ-loop
+loop-again c = filled-more _ _ _ _ _ (c .before .loop .inv) (c .loop-test .taken)
+
+returns : tie.Need-returns Inv-loop μ-loop
+returns c = filled-done _ _ _ _ _ (c .before .loop .inv) (c .loop-test .left)
+
+pub route-of-spec : {M : Type 1} → statement M
+route-of-spec =
+    tie.close
+    (tie.spec
+    Inv-loop
+    μ-loop
+    loop-holds
+    add-route
+    mul-route
+    array-read-route
+    mul-route-2
+    array-write-route
+    add-i
+    loop-less
+    loop-again
+    returns)

@@ -1,0 +1,146 @@
+-- A number and its decimal digits: each gives the other back.
+use mathlib.Core.Path.{_≡_, refl, sym, ap, subst, _∙_}
+use mathlib.Core.Bool.{true, false, _&&_, false≢true}
+use mathlib.Core.List.{List, [], _∷_, _++_, append-nil, append-assoc}
+use Prim.Native.Nat.{ℕ, zero, suc, _+_, _-_, _*_, _/_, _%_, _<_, _≤_}
+use native.Mathlib.Decide.{decLe}
+use native.Mathlib.Omega.{arith}
+use lib.Dec.{leb, ltb, eqb}
+use lib.ListN.{length}
+use borrow.Author.Tests.{ne-eqb, le-leb, lt-ltb, leb-true, ltb-true, eqb-false, not-true}
+use Rattle.document.specs.Text.{isDigit, allDigits, plain, valueFrom, valueOf, isNumber, decimal}
+use Rattle.laws.specs.Sums.{and-l, and-r}
+use Rattle.text.specs.Digits.{value-grows, good-number}
+use Rattle.text.specs.Decimals.{tenDigits, top, decimal-one, decimal-more, decimal-size}
+
+-- one digit more at the end
+value-next : (f : List ℕ) (v b : ℕ) → valueFrom v (f ++ (b ∷ [])) ≡ valueFrom v f * 10 + (b - 48)
+unfolding valueFrom
+value-next [] v b = refl
+value-next (c ∷ f) v b = value-next f (v * 10 + (c - 48)) b
+
+all-next : (f : List ℕ) (b : ℕ) → allDigits f ≡ true → isDigit b ≡ true → allDigits (f ++ (b ∷ [])) ≡ true
+unfolding allDigits
+all-next [] b h k = rw k
+all-next (c ∷ f) b h k = rw (and-l (isDigit c) (allDigits f) h) (all-next f b (and-r (isDigit c) (allDigits f) h) k)
+
+digit-is : (d : ℕ) → d < 10 → isDigit (48 + d) ≡ true
+digit-is d h =
+    let a : 48 ≤ 48 + d = omega arith in
+    let b : 48 + d < 58 = omega arith in rw (le-leb 48 (48 + d) a, lt-ltb (48 + d) 58 b)
+
+-- a field that does not begin with 0
+plain-of : (b : ℕ) (f : List ℕ) → eqb b 48 ≡ false → plain (b ∷ f) ≡ true
+plain-of b [] h = refl
+plain-of b (c ∷ f) h = rw h
+
+-- what a number's digits are
+pub record Numeral (n : ℕ) (f : List ℕ) : Type 0 where
+  pub value : valueOf f ≡ n
+  pub all : allDigits f ≡ true
+  pub lead : 0 < n → (b : ℕ) × (g : List ℕ) × (f ≡ b ∷ g) × (eqb b 48 ≡ false)
+
+numeral-one : (n : ℕ) → n < 10 → Numeral n ((48 + n) ∷ [])
+unfolding valueFrom allDigits
+numeral-one n h =
+    record {
+      value = omega arith;
+      all = rw (digit-is n h);
+      lead = λ p. (48 + n, [], refl, ne-eqb (48 + n) 48 (λ e. omega arith));
+    }
+
+numeral-more : (n : ℕ) (f : List ℕ) → 10 ≤ n → Numeral (n / 10) f → Numeral n (f ++ ((48 + n % 10) ∷ []))
+numeral-more n f h m =
+    record {
+      value = value-next f 0 (48 + n % 10) ∙ omega (arith, m .value);
+      all = all-next f (48 + n % 10) (m .all) (digit-is (n % 10) (omega arith));
+      lead = λ p. let w = m .lead (omega arith) in (w .0, w .1 ++ ((48 + n % 10) ∷ []), ap (λ (l : List ℕ). l ++ ((48 + n % 10) ∷ [])) (w .2), w .3);
+    }
+
+numeral-in : (k n : ℕ) → n < top k → n < tenDigits → Numeral n (decimal n)
+unfolding top
+numeral-in zero n h l = subst (λ (f : List ℕ). Numeral n f) (sym (decimal-one n h)) (numeral-one n h)
+numeral-in (suc k) n h l =
+    elim (decLe 10 n) [
+      | yes d ↦ subst (λ (f : List ℕ). Numeral n f) (sym (decimal-more n d l)) (numeral-more n (decimal (n / 10)) d (numeral-in k (n / 10) (omega arith) (omega arith)))
+      | no d ↦ subst (λ (f : List ℕ). Numeral n f) (sym (decimal-one n (omega arith))) (numeral-one n (omega arith))
+    ]
+
+pub numeral : (n : ℕ) → n < tenDigits → Numeral n (decimal n)
+unfolding top
+numeral n h = numeral-in 9 n h h
+
+pub decimal-number : (n : ℕ) → n ≤ 65535 → isNumber (decimal n) ≡ true
+decimal-number n h = good-number (decimal n) (front n h) (m .all) (omega (arith, m .value))
+  where
+    m : Numeral n (decimal n)
+    m = numeral n (omega arith)
+
+    front : (n : ℕ) → n ≤ 65535 → plain (decimal n) ≡ true
+    front zero h = ap plain (decimal-one 0 (omega arith))
+    front (suc n) h =
+        let w = numeral (suc n) (omega arith) .lead (omega arith) in ap plain (w .2) ∙ plain-of (w .0) (w .1) (w .3)
+
+pub value-decimal : (n : ℕ) → n ≤ 65535 → valueOf (decimal n) ≡ n
+value-decimal n h = numeral n (omega arith) .value
+
+-- the digits after those of a number
+digits-after : (f : List ℕ) (v : ℕ) → 0 < v → allDigits f ≡ true → valueFrom v f < tenDigits → decimal (valueFrom v f) ≡ decimal v ++ f
+unfolding valueFrom allDigits
+digits-after [] v p d h = sym (append-nil (decimal v))
+digits-after (b ∷ f) v p d h =
+    let i = and-l (isDigit b) (allDigits f) d in
+    let lo = leb-true 48 b (and-l (leb 48 b) (ltb b 58) i) in
+    let hi = ltb-true b 58 (and-r (leb 48 b) (ltb b 58) i) in
+    let w : ℕ = v * 10 + (b - 48) in
+    digits-after f (v * 10 + (b - 48)) (omega arith) (and-r (isDigit b) (allDigits f) d) h
+    ∙ ap (λ (l : List ℕ). l ++ f)
+    (decimal-more (v * 10 + (b - 48)) (omega arith) (omega (arith, value-grows f (v * 10 + (b - 48))))
+    ∙ last v b lo hi)
+    ∙ append-assoc (decimal v) (b ∷ []) f
+  where
+    last : (v b : ℕ) → 48 ≤ b → b < 58 → decimal ((v * 10 + (b - 48)) / 10) ++ ((48 + (v * 10 + (b - 48)) % 10) ∷ []) ≡ decimal v ++ (b ∷ [])
+    last v b lo hi =
+        let x : (v * 10 + (b - 48)) / 10 ≡ v = omega arith in
+        let y : 48 + (v * 10 + (b - 48)) % 10 ≡ b = omega arith in rw (x, y)
+
+lead-digit : (b : ℕ) → isDigit b ≡ true → decimal (0 * 10 + (b - 48)) ≡ b ∷ []
+lead-digit b i =
+    let lo = leb-true 48 b (and-l (leb 48 b) (ltb b 58) i) in
+    let hi = ltb-true b 58 (and-r (leb 48 b) (ltb b 58) i) in
+    let x : 48 + (0 * 10 + (b - 48)) ≡ b = omega arith in
+    decimal-one (0 * 10 + (b - 48)) (omega arith) ∙ rw x
+
+-- a number's digits are those of its value
+pub number-decimal : (f : List ℕ) → isNumber f ≡ true → decimal (valueOf f) ≡ f
+unfolding isNumber allDigits valueFrom
+number-decimal f h =
+    let a = and-l (plain f && allDigits f) (leb (valueOf f) 65535) h in
+    go f (and-l (plain f) (allDigits f) a) (and-r (plain f) (allDigits f) a) (leb-true (valueOf f) 65535 (and-r (plain f && allDigits f) (leb (valueOf f) 65535) h))
+  where
+    apart : (b : ℕ) → (b ≡ 48 → ⊥) → 48 ≤ b → 0 < 0 * 10 + (b - 48)
+    apart b n lo = omega arith
+
+    go : (f : List ℕ) → plain f ≡ true → allDigits f ≡ true → valueOf f ≤ 65535 → decimal (valueOf f) ≡ f
+    go [] p d v = absurd (false≢true p)
+    go (b ∷ []) p d v = lead-digit b (and-l (isDigit b) true d)
+    go (b ∷ c ∷ f) p d v =
+        let i = and-l (isDigit b) (allDigits (c ∷ f)) d in
+        let n = eqb-false b 48 (not-true (eqb b 48) p) in
+        let lo = leb-true 48 b (and-l (leb 48 b) (ltb b 58) i) in
+        digits-after (c ∷ f) (0 * 10 + (b - 48)) (apart b n lo) (and-r (isDigit b) (allDigits (c ∷ f)) d) (omega arith)
+        ∙ ap (λ (l : List ℕ). l ++ (c ∷ f)) (lead-digit b i)
+
+-- how many digits a number has at most
+size-in : (k n : ℕ) → n < top k → n < tenDigits → length (decimal n) ≤ k + 1
+unfolding top
+size-in zero n h l = omega (arith, ap length (decimal-one n h))
+size-in (suc k) n h l =
+    elim (decLe 10 n) [
+      | yes d ↦ omega (arith, decimal-size n d l, size-in k (n / 10) (omega arith) (omega arith))
+      | no d ↦ omega (arith, ap length (decimal-one n (omega arith)))
+    ]
+
+pub decimal-five : (n : ℕ) → n ≤ 65535 → length (decimal n) ≤ 5
+unfolding top
+decimal-five n h = size-in 4 n (omega arith) (omega arith)

@@ -1,0 +1,73 @@
+-- Document 01, "The flow set", and "the reader leaves them 0": the reader and the writer together. All is said of the definitions that
+-- `read` and `write` are proved to meet; that the bytes which `write` stores are `textOf` stands in their contract.
+use mathlib.Core.Path.{_≡_, refl}
+use mathlib.Core.Bool.{true}
+use mathlib.Core.List.{List, [], _∷_}
+use Prim.Native.Nat.{ℕ, _≤_}
+use native.Mathlib.Omega.{arith}
+use lib.ListN.{length, replicate, getD-replicate}
+use Rattle.model.specs.declared.kinds.Flow.{Flow}
+use Rattle.model.specs.declared.kinds.FlowSet.{FlowSet}
+use Rattle.model.specs.Limits.{mostFlows, mostNodes}
+use Rattle.model.specs.Refusals.{good}
+use Rattle.model.specs.Sets.{noFlow, used, anyOf, SameSet}
+use Rattle.document.specs.Reader.{twice, flowFault, flowsFault, recordFault, flowLines, readText, textOf}
+use Rattle.document.specs.Text.{decimalIn, decimal, tabbed, decimals, lineOf}
+use Rattle.text.specs.Again.{longestText, read-written, read-length}
+use Rattle.text.specs.LinesAgain.{small}
+use Rattle.text.specs.Written.{Stored, written-read}
+use Rattle.text.specs.Zeros.{Zeroed, read-zeroed}
+
+-- (i) what is written of a set that passes the record check is read, without a fault, as the same set, and all other entries are 0
+pub record Returns (s : FlowSet) : Type 0 where
+  pub no-fault : good (readText (textOf (used s)) .fault .refusal) ≡ true
+  pub same-set : SameSet (readText (textOf (used s)) .set) s
+  pub others-zero : Zeroed (readText (textOf (used s)) .set)
+
+pub returns : (s : FlowSet) → Stored s → good (recordFault (used s) .refusal) ≡ true → Returns s
+returns s st h =
+    let w = written-read s st h in
+    record { no-fault = w .0; same-set = w .1; others-zero = read-zeroed (textOf (used s)) }
+
+-- (ii) every accepted text, read and written again, has the same bytes
+pub same-bytes : (s : List ℕ) → good (readText s .fault .refusal) ≡ true → textOf (used (readText s .set)) ≡ s
+same-bytes = read-written
+
+-- (iii) the longest accepted text has 8,138 bytes
+pub at-most : (s : List ℕ) → good (readText s .fault .refusal) ≡ true → length s ≤ longestText
+at-most = read-length
+
+-- and one has as many: each number as long as it may be
+longFlow : Flow
+longFlow =
+    record {
+      period = record { 0 = 65535 };
+      deadline = record { 0 = 65535 };
+      start = 65535;
+      tries = 4;
+      nodes = mostNodes;
+      route = 10000 ∷ 10001 ∷ 10002 ∷ 10003 ∷ 10004 ∷ 10005 ∷ 10006 ∷ 10007 ∷ 10008 ∷ 10009 ∷ 10010 ∷ 10011 ∷ 10012 ∷ 10013 ∷ 10014 ∷ 10015 ∷ 10016 ∷ [];
+    }
+
+longSet : FlowSet
+longSet = record { map = record { 0 = 65535 }; count = mostFlows; flows = replicate mostFlows longFlow }
+
+long-stored : Stored longSet
+unfolding longSet longFlow small
+long-stored =
+    record {
+      flows-are = refl;
+      map-fits = omega arith;
+      flow-is = λ k h. rw (getD-replicate mostFlows k longFlow noFlow h) record { route-is = refl; numbers-fit = refl };
+    }
+
+long-good : good (recordFault (used longSet) .refusal) ≡ true
+unfolding longSet longFlow recordFault flowsFault flowFault twice anyOf used
+long-good = refl
+
+long-length : length (textOf (used longSet)) ≡ longestText
+unfolding longSet longFlow textOf used flowLines lineOf tabbed decimals decimal decimalIn
+long-length = refl
+
+pub attained : (s : List ℕ) × (length s ≡ longestText) × (good (readText s .fault .refusal) ≡ true)
+attained = (textOf (used longSet), long-length, returns longSet long-stored long-good .no-fault)

@@ -1,0 +1,154 @@
+// A number's decimal digits, stored into a lent buffer as far as it goes, and the numbers of a flow's line.
+// The lines of a set's text, put into a buffer as far as it goes.
+// The writer: the record check first, then the buffer's room, then the text and nothing else. What holds of a set's text that is read and
+// written stands in specs/RoundTrip.antt.
+ghost use mathlib.Core.Path.{_≡_};
+ghost use Prim.Native.Nat.{_+_, _-_, _≤_, min};
+ghost use Rattle.document.specs.Reader.{flowLines, flowNumbers, textOf, writeAnswer, writeInto};
+ghost use Rattle.model.specs.Limits.{mostFlows, mostNodes};
+ghost use Rattle.model.specs.Sets.{exact, used};
+ghost use Rattle.document.specs.Text.{flowWord, lineOf};
+ghost use Rattle.text.specs.Put.{Put, lastPlace};
+ghost use lib.ListN.{length};
+ghost use Rattle.text.specs.Room.{roomAnswer, roomInto};
+use crate::put;
+use model::Fault;
+use model::Flow;
+use model::FlowSet;
+use model::Refusal;
+use model::Written;
+
+// A 16-bit number as a wider one.
+fn wide(n: u16) -> u32
+    ensures { λ r. ⌜ r ≡ n ⌝ }
+{
+    n as u32
+}
+
+pub type Numbers = [u32; 4 + Flow::MOST_NODES];
+
+// A flow's numbers in the order of its line, all the nodes of its array among them.
+pub fn flow_numbers(f: Flow) -> Numbers
+    ensures { λ r. ⌜ r ≡ flowNumbers f ⌝ }
+{
+    let route = f.route;
+    let mut numbers = [0u32; 4 + Flow::MOST_NODES];
+    numbers[0] = wide(f.period.0);
+    numbers[1] = wide(f.deadline.0);
+    numbers[2] = wide(f.start);
+    numbers[3] = wide(f.tries);
+    let mut i = 0usize;
+    while i < Flow::MOST_NODES {
+        numbers[4 + i] = wide(route[i]);
+        i += 1;
+    }
+    numbers
+}
+
+// How many of them its line has: no node beyond the array.
+fn line_numbers(f: Flow) -> usize
+    ensures { λ r. ⌜ (r ≡ 4 + min (f .nodes) mostNodes) × (r ≤ 21) ⌝ }
+{
+    let n = f.nodes as usize;
+    if n <= Flow::MOST_NODES {
+        4 + n
+    } else {
+        4 + Flow::MOST_NODES
+    }
+}
+
+// A flow's line.
+fn put_flow(out: &mut [u8], at: usize, f: Flow) -> usize
+    ensures { λ r. ⌜ Put (now (out .entry)) at (lineOf flowWord (flowNumbers (exact f))) (now (out .exit)) r ⌝ }
+{
+    let numbers = flow_numbers(f);
+    let n = line_numbers(f);
+    put::put_line(out, at, b"flow", &numbers[..n])
+}
+
+// How many flows a set has: none beyond the array.
+fn used_flows(s: FlowSet) -> usize
+    ensures { λ r. ⌜ (r ≡ min (s .count) mostFlows) × (r ≤ mostFlows) ⌝ }
+{
+    let n = s.count as usize;
+    if n <= Flow::MOST { n } else { Flow::MOST }
+}
+
+// The lines of a set's flows.
+fn put_flows(out: &mut [u8], at: usize, s: FlowSet) -> usize
+    ensures { λ r. ⌜ Put (now (out .entry)) at (flowLines (used s .flows)) (now (out .exit)) r ⌝ }
+{
+    let n = used_flows(s);
+    let mut place = at;
+    let mut k = 0usize;
+    while k < n {
+        place = put_flow(out, place, s.flows[k]);
+        k += 1;
+    }
+    place
+}
+
+// A set's text from a place on, as far as the buffer goes; the answer is the place after it.
+pub fn put_set(out: &mut [u8], at: usize, s: FlowSet) -> usize
+    ensures { λ r. ⌜ Put (now (out .entry)) at (textOf (used s)) (now (out .exit)) r ⌝ }
+{
+    let bits = s.map.0 as u32;
+    let map = [bits; 1];
+    let place = put::put_line(out, at, b"set", &map);
+    put_flows(out, place, s)
+}
+
+// The length of a set's text: it is put where the buffer ends, so that nothing is stored.
+fn text_length(out: &mut [u8], s: FlowSet) -> usize
+    ensures { λ r. ⌜
+        (now (out .exit) ≡ now (out .entry))
+        × (r ≡ min (length (textOf (used s))) (lastPlace - length (now (out .entry))))
+        ⌝ }
+{
+    let end = out.len();
+    put_set(out, end, s) - end
+}
+
+// Writes a set's text into the buffer, unless the room refuses it.
+fn write_text(s: FlowSet, out: &mut [u8]) -> Written
+    ensures { λ r. ⌜
+        (r ≡ roomAnswer (used s) (length (now (out .entry))))
+        × (now (out .exit) ≡ roomInto (used s) (now (out .entry)))
+        ⌝ }
+{
+    let n = text_length(out, s);
+    if out.len() < n {
+        let none = Fault {
+            refusal: Refusal::NoRoom,
+            line: 0,
+        };
+        return Written {
+            fault: none,
+            length: 0,
+        };
+    }
+    put_set(out, 0, s);
+    let good = Fault {
+        refusal: Refusal::Nothing,
+        line: 0,
+    };
+    Written {
+        fault: good,
+        length: n,
+    }
+}
+
+// Writes a set's text into the buffer, unless the record check or the room refuses it.
+pub fn write(s: FlowSet, out: &mut [u8]) -> Written
+    ensures { λ r. ⌜
+        (r ≡ writeAnswer (used s) (length (now (out .entry))))
+        × (now (out .exit) ≡ writeInto (used s) (now (out .entry)))
+        ⌝ }
+{
+    let fault = rules::record_fault(s);
+    let refusal = fault.refusal;
+    if refusal.code() != 0 {
+        return Written { fault, length: 0 };
+    }
+    write_text(s, out)
+}
