@@ -15,7 +15,7 @@ pub fn check(set: &Set) -> Refusal {
         }
     }
     if usize::from(set.count) > MOST_FLOWS {
-        return Refusal::at(3, MOST_FLOWS as u8 + 2);
+        return Refusal::at(3, MOST_FLOWS as u32 + 2);
     }
     Refusal::NONE
 }

@@ -24,5 +24,5 @@ pub use delay::{bound, verdict, Bound, Delays, Planner, Verdict};
 pub use machine::{step, Delivered, Machine, Slot, Step, Transmission};
 pub use plan::plan;
 pub use read::{read, Read};
-pub use record::{same, Flow, Refusal, Set, State};
+pub use record::{same, Flow, Refusal, Set, State, LAST_OF_01, REFUSALS};
 pub use write::{write, Written};

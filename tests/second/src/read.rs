@@ -34,7 +34,7 @@ fn fill(text: &[u8], set: &mut Set) -> Result<(), Refusal> {
     let mut at = first.next;
     while at < text.len() {
         let k = usize::from(set.count);
-        let number = set.count as u8 + 2;
+        let number = u32::from(set.count) + 2;
         let line = line_at(text, at, b"flow").filter(|line| line.count >= 4).ok_or(Refusal::at(1, number))?;
         if k == MOST_FLOWS {
             return Err(Refusal::at(3, number));

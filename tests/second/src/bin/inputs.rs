@@ -3,10 +3,10 @@
 
 use second::host::{bound_of_text, step_of_text};
 use second::inputs::{records, sets, texts, Rng};
-use second::{check, read, step, write, Refusal, Set};
+use second::{check, read, step, write, Refusal, Set, REFUSALS};
 
 /// How often each refusal number was made.
-type Tally = [u64; 14];
+type Tally = [u64; REFUSALS];
 /// Draws an input of one kind and answers with its refusal.
 type Kind = fn(&mut Rng) -> Refusal;
 

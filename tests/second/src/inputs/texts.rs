@@ -50,7 +50,7 @@ pub fn damaged(rng: &mut Rng, faults: [u8; 2]) -> Damaged {
         text.extend_from_slice(&lines[rng.below(lines.len())..].concat());
         text.extend_from_slice(rng.pick(&[&b""[..], b"\n", b"set\t0\n", b"flow\t0", b"x"]));
     }
-    Damaged { text, refusal: Refusal::at(faults[0].min(faults[1]), before as u8 + 1) }
+    Damaged { text, refusal: Refusal::at(faults[0].min(faults[1]), before as u32 + 1) }
 }
 
 /// A set of 64 flows, short ones, so that a 65th line can follow.

@@ -2,7 +2,7 @@
 
 use crate::checks::set_of;
 use second::inputs::{records, sets, texts, Rng};
-use second::{check, read, step, Planner, Refusal};
+use second::{check, read, step, Planner, Refusal, REFUSALS};
 
 #[test]
 fn the_same_seed_draws_the_same_inputs() {
@@ -50,7 +50,7 @@ fn drawn_sets_lie_on_either_side_of_a_line() {
 #[test]
 fn every_refusal_occurs() {
     let mut rng = Rng::new(93);
-    let mut seen = [[0; 14]; 3];
+    let mut seen = [[0; REFUSALS]; 3];
     for _ in 0..6_000 {
         let text = texts::any(&mut rng);
         seen[0][usize::from(read(&text).refusal.number)] += 1;
@@ -86,7 +86,7 @@ fn damaged_lines_have_both_faults_of_every_pair() {
         for _ in 0..100 {
             let damaged = texts::damaged(&mut rng, faults);
             let text = String::from_utf8(damaged.text).unwrap();
-            let line = text.lines().nth(usize::from(damaged.refusal.line) - 1).unwrap();
+            let line = text.lines().nth(damaged.refusal.line as usize - 1).unwrap();
             let numbers: Vec<i64> = line.split('\t').skip(1).map(|field| field.parse().unwrap()).collect();
             let found = faults_of(&numbers);
             assert!(faults.iter().all(|fault| found.contains(fault)), "{faults:?}, found {found:?} in {line}");
