@@ -8,7 +8,7 @@ use Rattle.model.specs.declared.kinds.FlowSet.{FlowSet}
 use Rattle.model.specs.Limits.{mostFlows, mostNodes}
 use Rattle.model.specs.Sums.{bit}
 use Rattle.model.specs.Sets.{flowAt, memb}
-use Rattle.delay.specs.Grid.{pairAt}
+use Rattle.delay.specs.PairGrids.{pairAt}
 
 -- how many numbers a node can have, and how many rows there are: one for each place on a route, and row 0 for the nodes on none
 abbrev pub nodeNumbers : ℕ

@@ -5,7 +5,7 @@ use mathlib.Core.Logic.{_⊎_, _≢_}
 use Prim.Native.Nat.{ℕ, _*_, _≤_, _<_}
 use lib.ListN.{length}
 use Rattle.model.specs.Limits.{mostFlows}
-use Rattle.delay.specs.Grid.{pairAt}
+use Rattle.delay.specs.PairGrids.{pairAt}
 
 -- u is t with f in column l, as far as row n; all else is as it was
 pub record ColumnDone (f : ℕ → ℕ) (n l : ℕ) (t u : List ℕ) : Type 0 where

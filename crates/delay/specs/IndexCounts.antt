@@ -9,8 +9,8 @@ use lib.ListN.{length, getD, set, replicate, length-set, length-replicate}
 use lib.Seq.{getD-set-same, getD-set-other}
 use Rattle.model.specs.Limits.{mostFlows}
 use Rattle.model.specs.Sums.{sumTo}
-use Rattle.laws.specs.Sums.{sum-next}
-use Rattle.delay.specs.Fill.{zeros}
+use Rattle.laws.specs.SumLaws.{sum-next}
+use Rattle.delay.specs.PairGrids.{zeros}
 use Rattle.delay.specs.IndexMet.{either, Added, Met}
 
 -- one flow more has its number raised

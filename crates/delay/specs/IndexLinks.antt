@@ -15,10 +15,10 @@ use Rattle.model.specs.Limits.{mostFlows}
 use Rattle.model.specs.Sums.{bit, anyTo}
 use Rattle.model.specs.Sets.{flowAt, memb, exact, used, links}
 use Rattle.document.specs.Delay.{touches, conflictWork}
-use Rattle.laws.specs.Sums.{sum-ext}
+use Rattle.laws.specs.SumLaws.{sum-ext}
 use Rattle.laws.specs.Used.{used-flow}
-use Rattle.delay.specs.Grid.{pairAt, conflictOf, RowsTo}
-use Rattle.delay.specs.Routes.{meet-ends}
+use Rattle.delay.specs.PairGrids.{pairAt, conflictOf, RowsTo}
+use Rattle.delay.specs.RouteMarks.{meet-ends}
 use Rattle.delay.specs.Index.{PlacedTo, UsersTo}
 use Rattle.delay.specs.IndexMet.{either, metTo}
 use Rattle.delay.specs.IndexColumns.{ColumnDone, ColumnsTo}

@@ -5,7 +5,7 @@ use Prim.Native.Nat.{ℕ, _+_, _≤_, _<_, max}
 use lib.ListN.{length, getD}
 use Rattle.model.specs.Limits.{mostFlows}
 use Rattle.model.specs.Sums.{sumTo}
-use Rattle.delay.specs.Grid.{pairAt}
+use Rattle.delay.specs.PairGrids.{pairAt}
 
 -- 1 where one of two rows has flow k
 abbrev pub either : List ℕ → ℕ → ℕ → ℕ → ℕ

@@ -15,7 +15,7 @@ use Rattle.model.specs.declared.kinds.FlowSet.{FlowSet}
 use Rattle.model.specs.Limits.{mostFlows, mostNodes}
 use Rattle.model.specs.Sums.{bit}
 use Rattle.model.specs.Sets.{flowAt, anyOf, memb}
-use Rattle.delay.specs.Fill.{zeros}
+use Rattle.delay.specs.PairGrids.{zeros}
 use Rattle.delay.specs.Index.{nodeNumbers, mostRows, Placed, Rowed, Kept, PlacedTo, Column, OtherColumns, UsersTo}
 
 -- a number at a place of its own, and what else is there

@@ -1,27 +1,20 @@
-// The marks of a route's nodes, one for each remainder of a node number: whether a node stands twice in a route (rule 8 of document 01),
-// from where on a route with these marks is searched, and how many links of one route have an end on another.
-// What document 01's delay tests ask of two flows, in arrays: S, how much of one flow's work meets the other's route, and q and r, a deadline
-// divided by a period.
-// S of document 01's delay tests for every pair of flows: a search of routes where the flows are few, an index of nodes where they are many.
-// Grids of numbers, one for each pair of flows, and what the record check's answer says of a set.
-// The tables of the delay tests, the equation's value by them, and that it is the definition's.
-// The answer for all flows at once.
+// S of document 01's delay tests for every pair of flows: a search of two routes where the flows are few, an index of nodes where they are
+// many. The marks of a route, one for each remainder of a node number, shorten the search.
 ghost use mathlib.Core.Path.{_≡_};
 ghost use Prim.Native.Nat.{_%_, _*_, _<_, _≤_};
 ghost use lib.ListN.{getD, length, take};
 ghost use mathlib.Core.Bool.{cond};
 ghost use lib.Dec.{eqb};
-ghost use Rattle.delay.specs.Marks.{Marked, SearchFrom, endOn, endsOn};
+ghost use Rattle.delay.specs.RouteMarks.{Marked, SearchFrom, endOn, endsOn};
+ghost use Rattle.delay.specs.PairGrids.{RowDone, RowsTo, conflictOf};
 ghost use Rattle.model.specs.Limits.{mostLinks, mostNodes};
-ghost use Rattle.model.specs.Sums.{bit};
 ghost use Rattle.model.specs.Sets.{used};
 ghost use Rattle.laws.specs.Accepted.{Accepted};
-ghost use Rattle.delay.specs.Grid.{RowDone, RowsTo, conflictOf};
 use crate::index::many;
 use model::Flow;
 use model::FlowSet;
 
-// From which place on a route of n nodes with these marks is to be searched for a node: none is left where it is not marked.
+// From which place on a route of n nodes with these marks is to be searched for a node: from its end where the node is not marked.
 fn search_from(n: usize, m: &[u8; 256], node: u16) -> usize
     ensures { λ r. ⌜ SearchFrom (now (m .entry)) n node r ⌝ }
     ensures { λ r. ⌜ r ≡ cond (eqb (getD (now (m .entry)) (node % 256) 0) 0) n 0 ⌝ }
@@ -34,7 +27,7 @@ fn search_from(n: usize, m: &[u8; 256], node: u16) -> usize
 }
 
 // Whether link i of the other route has an end on mine: one common node is enough, and the search of the two routes ends there.
-fn touches(
+fn link_touches(
     n: usize,
     mine: &[u16; Flow::MOST_NODES],
     other: &[u16; Flow::MOST_NODES],
@@ -62,15 +55,8 @@ fn touches(
     found
 }
 
-// A test as a number, to count by.
-fn one_if(test: bool) -> u16
-    ensures { λ r. ⌜ (r ≡ bit test) × (r ≤ 1) ⌝ }
-{
-    if test { 1 } else { 0 }
-}
-
 // How many of the other route's links have an end on mine.
-pub fn links_touched(
+fn links_touched(
     n: usize,
     mine: &[u16; Flow::MOST_NODES],
     links: usize,
@@ -83,7 +69,7 @@ pub fn links_touched(
     let mut touched: u16 = 0;
     let mut i: usize = 0;
     while i < links {
-        touched += one_if(touches(n, mine, other, i, m));
+        touched += model::bit(link_touches(n, mine, other, i, m)) as u16;
         i += 1;
     }
     touched
@@ -104,7 +90,7 @@ fn marks(n: usize, route: &[u16; Flow::MOST_NODES]) -> [u8; 256]
     m
 }
 
-// κ times such a number.
+// κ times a number of links.
 fn times(tries: u16, count: u16) -> u16
     requires { ⌜ (tries ≤ 4) × (count ≤ mostLinks) ⌝ }
     ensures { λ r. ⌜ r ≡ tries * count ⌝ }
@@ -112,14 +98,14 @@ fn times(tries: u16, count: u16) -> u16
     tries * count
 }
 
-// A flow's route: an array of as many places as a route can have.
+// A flow's route, with the length that its array has.
 fn route(f: Flow) -> [u16; Flow::MOST_NODES]
     ensures { λ r. ⌜ (r ≡ f .route) × (length r ≡ mostNodes) ⌝ }
 {
     f.route
 }
 
-// S of flow k and every other.
+// S of flow k and every flow, in row k.
 fn conflict_row(s: FlowSet, k: usize, t: &mut [u16; PAIRS])
     requires { ⌜ Accepted (used s) ⌝ }
     requires { ⌜ (k < s .count) × (length (now t) ≡ 4096) ⌝ }
@@ -140,8 +126,8 @@ fn conflict_row(s: FlowSet, k: usize, t: &mut [u16; PAIRS])
     }
 }
 
-// S of every pair, by a search of the two routes.
-pub fn search(s: FlowSet, t: &mut [u16; PAIRS])
+// S of every pair of flows, by a search of the two routes.
+fn conflict_work_by_search(s: FlowSet, t: &mut [u16; PAIRS])
     requires { ⌜ Accepted (used s) × RowsTo (conflictOf (used s)) (s .count) 0 (now t) ⌝ }
     ensures { λ r. ⌜ RowsTo (conflictOf (used s)) (s .count) (s .count) (now (t .exit)) ⌝ }
 {
@@ -153,16 +139,16 @@ pub fn search(s: FlowSet, t: &mut [u16; PAIRS])
     }
 }
 
-// How many flows make the index worth its making.
+// From how many flows on the index is quicker than the search.
 const MANY: u16 = 10;
 
-// S of every pair. Both ways give the same numbers; which is faster depends on the number of flows.
-pub fn conflicts(s: FlowSet, t: &mut [u16; PAIRS])
+// S of every pair of flows. Both ways give the same numbers; which one is quicker depends on the number of flows.
+pub fn conflict_work_of_all(s: FlowSet, t: &mut [u16; PAIRS])
     requires { ⌜ Accepted (used s) × RowsTo (conflictOf (used s)) (s .count) 0 (now t) ⌝ }
     ensures { λ r. ⌜ RowsTo (conflictOf (used s)) (s .count) (s .count) (now (t .exit)) ⌝ }
 {
     if s.count < MANY {
-        search(s, t);
+        conflict_work_by_search(s, t);
     } else {
         many(s, t);
     }

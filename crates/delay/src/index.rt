@@ -1,19 +1,14 @@
-// Functions over plain numbers: bounds that numbers have by their width, differences that end at 0, the smaller and the larger of two;
-// q and r of two flows; a deadline less a bound; the four bytes of a slot.
-// A row of its own for each node that is on a route.
-// Which routes each node is on: an index that is made once, for sets with many flows, and what a link adds by it.
-// How many of a flow's links have an end on each route, by the index of nodes.
-// S of document 01's delay tests for every pair of flows: a search of routes where the flows are few, an index of nodes where they are many.
+// S of document 01's delay tests by an index of nodes: a row for each node that is on a route, and in it which routes the node is on.
 ghost use mathlib.Core.Path.{_≡_};
 ghost use Prim.Native.Nat.{_*_, _+_, _-_, _<_, _≤_, max, ℕ};
 ghost use Rattle.delay.specs.Index.{Column, Kept, OtherColumns, Placed, PlacedTo, Rowed, UsersTo};
+ghost use Rattle.delay.specs.IndexMet.{Added, Met, metTo};
+ghost use Rattle.delay.specs.IndexColumns.{ColumnDone};
+ghost use Rattle.delay.specs.PairGrids.{RowsTo, conflictOf};
 ghost use Rattle.model.specs.Limits.{mostFlows, mostLinks, mostNodes};
 ghost use Rattle.model.specs.Sets.{used};
 ghost use Rattle.laws.specs.Accepted.{Accepted};
 ghost use lib.ListN.{getD, length};
-ghost use Rattle.delay.specs.IndexMet.{Added, Met, metTo};
-ghost use Rattle.delay.specs.IndexColumns.{ColumnDone};
-ghost use Rattle.delay.specs.Grid.{RowsTo, conflictOf};
 use crate::conflicts;
 use model::Flow;
 use model::FlowSet;

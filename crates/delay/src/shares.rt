@@ -1,32 +1,27 @@
-// What document 01's delay tests ask of two flows, in arrays: S, how much of one flow's work meets the other's route, and q and r, a deadline
-// divided by a period.
-// Functions over plain numbers: bounds that numbers have by their width, differences that end at 0, the smaller and the larger of two;
-// q and r of two flows; a deadline less a bound; the four bytes of a slot.
-// What a flow's row of the pair tables gives: the sums of q·S and q·C over the other flows with r beside them, and from these the value of
-// the equation of document 01's tightened delay test, for one flow and for every flow.
+// What no round changes in the shares of document 01's delay tests: q and r of a deadline and a period, and the sums of q·S and q·C over the
+// other flows.
 ghost use Prim.Native.Nat.{_%_, _*_, _-_, _/_, _<_, _≤_, min, ℕ};
 ghost use Rattle.model.specs.Sets.{used};
 ghost use Rattle.laws.specs.Accepted.{Accepted};
-ghost use Rattle.delay.specs.Divided.{Divided, NumbersTo};
+ghost use Rattle.delay.specs.ShareRows.{Positive, SharesTo, SmallWorks, remaindersBy, Divided, FlowNumbersTo, ZeroFrom, SmallWork, packetSum};
+ghost use Rattle.delay.specs.PairGrids.{RowDone, ofOther, pairAt};
 ghost use mathlib.Core.Path.{_≡_};
 ghost use lib.ListN.{getD, length};
 ghost use Rattle.model.specs.Limits.{mostFlows};
-ghost use Rattle.delay.specs.WholeRows.{Short, SmallRow, wholeRow};
 ghost use Rattle.model.specs.Sums.{sumTo};
-ghost use Rattle.delay.specs.Grid.{RowDone, ofOther, pairAt};
 use crate::conflicts;
 use model::Flow;
 use model::FlowSet;
 
 // T, D and C of every flow.
-pub fn numbers(
+pub fn periods_deadlines_work(
     s: FlowSet,
     period: &mut [u16; Flow::MOST],
     deadline: &mut [u16; Flow::MOST],
     work: &mut [u16; Flow::MOST],
 )
-    requires { ⌜ Accepted (used s) × NumbersTo (used s) 0 (now period) (now deadline) (now work) ⌝ }
-    ensures { λ r. ⌜ NumbersTo (used s) (s .count) (now (period .exit)) (now (deadline .exit)) (now (work .exit)) ⌝ }
+    requires { ⌜ Accepted (used s) × FlowNumbersTo (used s) 0 (now period) (now deadline) (now work) ⌝ }
+    ensures { λ r. ⌜ FlowNumbersTo (used s) (s .count) (now (period .exit)) (now (deadline .exit)) (now (work .exit)) ⌝ }
 {
     let n = s.count as usize;
     let mut k: usize = 0;
@@ -40,7 +35,7 @@ pub fn numbers(
 }
 
 // q and r of a deadline and the first n periods, r in row k.
-pub fn divide(
+fn divide(
     k: usize,
     n: usize,
     deadline: u16,
@@ -61,13 +56,13 @@ pub fn divide(
 }
 
 // A 16-bit number, with the bound that it has by its width.
-pub fn bounded(x: u16) -> u16
+fn bounded(x: u16) -> u16
     ensures { λ r. ⌜ (r ≡ x) × (r ≤ 65535) ⌝ }
 {
     x
 }
 
-// a − b, or 0 where that would be below it.
+// a − b, or 0 where b is larger.
 pub fn less(a: u16, b: u16) -> u16
     ensures { λ r. ⌜ r ≡ a - b ⌝ }
 {
@@ -77,7 +72,7 @@ pub fn less(a: u16, b: u16) -> u16
     a - b
 }
 
-// The smaller of two.
+// The smaller of two numbers.
 pub fn least(a: u16, b: u16) -> u16
     ensures { λ r. ⌜ r ≡ min a b ⌝ }
 {
@@ -85,22 +80,22 @@ pub fn least(a: u16, b: u16) -> u16
 }
 
 // q: how many whole periods a deadline has.
-pub fn quotient(deadline: u16, period: u16) -> u16
+fn quotient(deadline: u16, period: u16) -> u16
     requires { ⌜ (0 < deadline) × (0 < period) ⌝ }
     ensures { λ r. ⌜ r ≡ deadline / period ⌝ }
 {
     deadline / period
 }
 
-// r: what is left of it.
-pub fn left_over(deadline: u16, period: u16) -> u16
+// r: what is left of a deadline after its whole periods.
+fn left_over(deadline: u16, period: u16) -> u16
     requires { ⌜ (0 < deadline) × (0 < period) ⌝ }
     ensures { λ r. ⌜ r ≡ deadline % period ⌝ }
 {
     deadline % period
 }
 
-// A whole number of packets' transmissions.
+// q·S or q·C: the work of q packets.
 fn times(q: u16, count: u16) -> u32
     requires { ⌜ (q ≤ 65535) × (count ≤ 64) ⌝ }
     ensures { λ r. ⌜ (r ≡ q * count) × (r ≤ 4194240) ⌝ }
@@ -109,19 +104,19 @@ fn times(q: u16, count: u16) -> u32
 }
 
 // The sums of q·S and q·C over the flows other than one.
-pub struct Whole {
-    pub conflict: u32,
-    pub work: u32,
+struct PacketSums {
+    conflict: u32,
+    work: u32,
 }
 
-// These sums for flow k, whose own q is 0.
-fn whole_of(
+// The sums of q·S and q·C for flow k, whose own q is 0.
+fn packet_sums(
     k: usize,
     conflict: &[u16; conflicts::PAIRS],
     work: &[u16; Flow::MOST],
     q: &[u16; Flow::MOST],
-) -> Whole
-    requires { ⌜ (k < mostFlows) × SmallRow (now conflict) (now work) k ⌝ }
+) -> PacketSums
+    requires { ⌜ (k < mostFlows) × SmallWork (now conflict) (now work) k ⌝ }
     ensures { λ r. ⌜ r .conflict ≡ sumTo (λ l. getD (now (q .entry)) l 0 * pairAt (now (conflict .entry)) k l) mostFlows ⌝ }
     ensures { λ r. ⌜ (r .work ≡ sumTo (λ l. getD (now (q .entry)) l 0 * getD (now (work .entry)) l 0) mostFlows) × (r .work ≤ 268431360) ⌝ }
 {
@@ -134,14 +129,14 @@ fn whole_of(
         w += times(packets, work[l]);
         l += 1;
     }
-    Whole {
+    PacketSums {
         conflict: x,
         work: w,
     }
 }
 
-// r of flow k and the others, and their sums of q·S and q·C.
-pub fn row<'a>(
+// r of flow k and the other flows, in row k, and the sums of q·S and q·C over them.
+fn shares_of_flow<'a>(
     k: usize,
     n: usize,
     deadline: u16,
@@ -150,15 +145,41 @@ pub fn row<'a>(
     work: &'a [u16; Flow::MOST],
     q: &mut [u16; Flow::MOST],
     remainder: &mut [u16; conflicts::PAIRS],
-) -> Whole
+) -> PacketSums
     requires { ⌜ (k < n) × (n ≤ mostFlows) × (0 < deadline) × ((l : ℕ) → l < n → 0 < getD (now period) l 0) ⌝ }
-    requires { ⌜ SmallRow (now conflict) (now work) k × Short n (now q) × (length (now remainder) ≡ 4096) ⌝ }
-    ensures { λ r. ⌜ Short n (now (q .exit)) × RowDone (λ l. ofOther k l (deadline % getD (now (period .entry)) l 0)) n k (now (remainder .entry)) (now (remainder .exit)) ⌝ }
-    ensures { λ r. ⌜ r .conflict ≡ wholeRow deadline (now (period .entry)) n k (λ l. pairAt (now (conflict .entry)) k l) ⌝ }
-    ensures { λ r. ⌜ (r .work ≡ wholeRow deadline (now (period .entry)) n k (λ l. getD (now (work .entry)) l 0)) × (r .work ≤ 268431360) ⌝ }
+    requires { ⌜ SmallWork (now conflict) (now work) k × ZeroFrom n (now q) × (length (now remainder) ≡ 4096) ⌝ }
+    ensures { λ r. ⌜ ZeroFrom n (now (q .exit)) × RowDone (remaindersBy deadline (now (period .entry)) k) n k (now (remainder .entry)) (now (remainder .exit)) ⌝ }
+    ensures { λ r. ⌜ r .conflict ≡ packetSum deadline (now (period .entry)) n k (λ l. pairAt (now (conflict .entry)) k l) ⌝ }
+    ensures { λ r. ⌜ (r .work ≡ packetSum deadline (now (period .entry)) n k (λ l. getD (now (work .entry)) l 0)) × (r .work ≤ 268431360) ⌝ }
 {
     divide(k, n, deadline, period, q, remainder);
     q[k] = 0;
     remainder[k * Flow::MOST + k] = 0;
-    whole_of(k, conflict, work, q)
+    packet_sums(k, conflict, work, q)
+}
+
+// r of every pair of flows, and the sums of q·S and q·C for every flow.
+pub fn shares_of_flows<'a>(
+    n: usize,
+    period: &'a [u16; Flow::MOST],
+    deadline: &'a [u16; Flow::MOST],
+    conflict: &'a [u16; conflicts::PAIRS],
+    work: &'a [u16; Flow::MOST],
+    remainder: &mut [u16; conflicts::PAIRS],
+    whole_conflict: &mut [u32; Flow::MOST],
+    whole_work: &mut [u32; Flow::MOST],
+)
+    requires { ⌜ (n ≤ mostFlows) × Positive n (now period) (now deadline) × SmallWorks (now conflict) (now work) ⌝ }
+    requires { ⌜ SharesTo n 0 (now period) (now deadline) (now conflict) (now work) (now remainder) (now «whole_conflict») (now «whole_work») ⌝ }
+    ensures { λ r. ⌜ SharesTo n n (now (period .entry)) (now (deadline .entry)) (now (conflict .entry)) (now (work .entry))
+        (now (remainder .exit)) (now («whole_conflict» .exit)) (now («whole_work» .exit)) ⌝ }
+{
+    let mut q = [0u16; Flow::MOST];
+    let mut k: usize = 0;
+    while k < n {
+        let sums = shares_of_flow(k, n, deadline[k], period, conflict, work, &mut q, remainder);
+        whole_conflict[k] = sums.conflict;
+        whole_work[k] = sums.work;
+        k += 1;
+    }
 }

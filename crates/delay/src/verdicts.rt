@@ -1,8 +1,3 @@
-// Functions over plain numbers: bounds that numbers have by their width, differences that end at 0, the smaller and the larger of two;
-// q and r of two flows; a deadline less a bound; the four bytes of a slot.
-// Grids of numbers, one for each pair of flows, and what the record check's answer says of a set.
-// The tables of the delay tests, the equation's value by them, and that it is the definition's.
-// The answer for all flows at once.
 // The verdicts of both delay tests, and one flow's bounds, from the bounds of all flows.
 ghost use mathlib.Core.Path.{_≡_};
 ghost use Prim.Native.Nat.{_-_, _<_, _≤_};
@@ -24,7 +19,7 @@ use model::Span;
 use model::Verdict;
 
 // Deadline less tightened bound, signed.
-pub fn margin(deadline: u16, bound: u32) -> i32
+fn margin(deadline: u16, bound: u32) -> i32
     requires { ⌜ bound ≤ 272691135 ⌝ }
     ensures { λ r. ⌜ r ≡ pos deadline -ℤ pos bound ⌝ }
 {
@@ -64,13 +59,12 @@ fn admits(s: FlowSet, bound: [u32; Flow::MOST]) -> bool
 
 // The verdicts of both tests and the number of rounds, from the bounds of all flows; zeros and "no" for a set that the record check
 // refuses.
-pub fn verdict_of(s: FlowSet, j: AllBounds) -> Verdict
-    requires { ⌜ AllBoundsOf (used s) j ⌝ }
+pub fn verdict_of(s: FlowSet, all: AllBounds) -> Verdict
+    requires { ⌜ AllBoundsOf (used s) all ⌝ }
     ensures { λ r. ⌜ r ≡ verdictOf (used s) ⌝ }
 {
-    let fault = j.fault;
-    let refusal = fault.refusal;
-    if refusal.code() != 0 {
+    let fault = all.fault;
+    if fault.refuses() {
         return Verdict {
             fault,
             basic: false,
@@ -78,13 +72,13 @@ pub fn verdict_of(s: FlowSet, j: AllBounds) -> Verdict
             rounds: 0,
         };
     }
-    let basic = j.basic;
-    let tightened = j.tightened;
+    let basic = all.basic;
+    let tightened = all.tightened;
     Verdict {
         fault,
         basic: admits(s, basic),
         tightened: admits(s, tightened),
-        rounds: j.rounds,
+        rounds: all.rounds,
     }
 }
 
@@ -103,16 +97,16 @@ fn refused(fault: Fault) -> Bounds
 }
 
 // One flow's bounds, from those of all.
-fn bounds_at(s: FlowSet, k: usize, j: AllBounds) -> Bounds
+fn bounds_at(s: FlowSet, k: usize, all: AllBounds) -> Bounds
     requires { ⌜ good (recordFault (used s) .refusal) ≡ true ⌝ }
-    requires { ⌜ (k < s .count) × AllBoundsOf (used s) j ⌝ }
+    requires { ⌜ (k < s .count) × AllBoundsOf (used s) all ⌝ }
     ensures { λ r. ⌜ r ≡ boundsIf (used s) k true ⌝ }
 {
     let f = s.flows[k];
-    let basic = j.basic[k];
-    let tightened = j.tightened[k];
+    let basic = all.basic[k];
+    let tightened = all.tightened[k];
     let deadline = f.deadline;
-    let fault = j.fault;
+    let fault = all.fault;
     Bounds {
         fault,
         work: f.work(),
@@ -124,20 +118,16 @@ fn bounds_at(s: FlowSet, k: usize, j: AllBounds) -> Bounds
 }
 
 // C, both bounds, deadline and margin of one flow, from the bounds of all. The record check's refusals come first, then 13.
-pub fn bounds_of(s: FlowSet, k: u16, j: AllBounds) -> Bounds
-    requires { ⌜ AllBoundsOf (used s) j ⌝ }
+pub fn bounds_of(s: FlowSet, k: u16, all: AllBounds) -> Bounds
+    requires { ⌜ AllBoundsOf (used s) all ⌝ }
     ensures { λ r. ⌜ r ≡ boundsOf (used s) k ⌝ }
 {
-    let fault = j.fault;
-    let refusal = fault.refusal;
-    if refusal.code() != 0 {
+    let fault = all.fault;
+    if fault.refuses() {
         return refused(fault);
     }
     if s.count <= k {
-        return refused(Fault {
-            refusal: Refusal::NoSuchFlow,
-            line: 0,
-        });
+        return refused(Fault::of(Refusal::NoSuchFlow));
     }
-    bounds_at(s, k as usize, j)
+    bounds_at(s, k as usize, all)
 }

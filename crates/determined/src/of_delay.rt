@@ -1,17 +1,12 @@
-// The two delay tests.
+// The two delay tests, each called twice.
 ghost use mathlib.Core.Path.{_≡_};
 ghost use Rattle.model.specs.Sets.{used};
 ghost use Rattle.delay.specs.AllBounds.{AllBoundsOf};
+use crate::two::TwoAllBounds;
+use crate::two::TwoBounds;
+use crate::two::TwoVerdict;
 use delay::AllBounds;
-use model::Bounds;
 use model::FlowSet;
-use model::Verdict;
-
-pub struct TwoAllBounds(pub AllBounds, pub AllBounds);
-
-pub struct TwoVerdict(pub Verdict, pub Verdict);
-
-pub struct TwoBounds(pub Bounds, pub Bounds);
 
 pub fn all_bounds(s: FlowSet) -> TwoAllBounds
     ensures { λ r. ⌜ r .0 ≡ r .1 ⌝ }
@@ -21,12 +16,12 @@ pub fn all_bounds(s: FlowSet) -> TwoAllBounds
     TwoAllBounds(a, b)
 }
 
-pub fn verdict_of(s: FlowSet, j: AllBounds) -> TwoVerdict
-    requires { ⌜ AllBoundsOf (used s) j ⌝ }
+pub fn verdict_of(s: FlowSet, all: AllBounds) -> TwoVerdict
+    requires { ⌜ AllBoundsOf (used s) all ⌝ }
     ensures { λ r. ⌜ r .0 ≡ r .1 ⌝ }
 {
-    let a = delay::verdict_of(s, j);
-    let b = delay::verdict_of(s, j);
+    let a = delay::verdict_of(s, all);
+    let b = delay::verdict_of(s, all);
     TwoVerdict(a, b)
 }
 
@@ -38,12 +33,12 @@ pub fn verdict(s: FlowSet) -> TwoVerdict
     TwoVerdict(a, b)
 }
 
-pub fn bounds_of(s: FlowSet, k: u16, j: AllBounds) -> TwoBounds
-    requires { ⌜ AllBoundsOf (used s) j ⌝ }
+pub fn bounds_of(s: FlowSet, k: u16, all: AllBounds) -> TwoBounds
+    requires { ⌜ AllBoundsOf (used s) all ⌝ }
     ensures { λ r. ⌜ r .0 ≡ r .1 ⌝ }
 {
-    let a = delay::bounds_of(s, k, j);
-    let b = delay::bounds_of(s, k, j);
+    let a = delay::bounds_of(s, k, all);
+    let b = delay::bounds_of(s, k, all);
     TwoBounds(a, b)
 }
 

@@ -1,17 +1,13 @@
-// The slot machine.
+// The slot machine's step and run, each called twice.
 ghost use mathlib.Core.Path.{_≡_};
 ghost use mathlib.Core.Bool.{true};
 ghost use Rattle.model.specs.Refusals.{good};
 ghost use Rattle.document.specs.Reader.{recordFault};
 ghost use Rattle.model.specs.Sets.{used};
+use crate::two::TwoRan;
+use crate::two::TwoStepped;
 use model::FlowSet;
-use model::Ran;
 use model::State;
-use model::Stepped;
-
-pub struct TwoStepped(pub Stepped, pub Stepped);
-
-pub struct TwoRan(pub Ran, pub Ran);
 
 pub fn step(s: FlowSet, st: State) -> TwoStepped
     ensures { λ r. ⌜ r .0 ≡ r .1 ⌝ }

@@ -1,8 +1,6 @@
-// The plan program's text.
+// The plan program's text, made twice.
 ghost use mathlib.Core.Path.{_≡_};
-use model::Written;
-
-pub struct TwoWritten(pub Written, pub Written);
+use crate::two::TwoWritten;
 
 pub fn plan(input: &[u8], x: &mut [u8], y: &mut [u8]) -> TwoWritten
     ensures { λ r. ⌜ ((now (x .entry) ≡ now (y .entry)) → ((r .0 ≡ r .1) × (now (x .exit) ≡ now (y .exit)))) ⌝ }

@@ -1,14 +1,11 @@
-// What C calls.
+// What C calls, each called twice.
 ghost use mathlib.Core.Path.{_≡_};
-use model::BoundsAnswer;
-use model::SlotAnswer;
-use model::VerdictAnswer;
-
-pub struct TwoVerdictAnswer(pub VerdictAnswer, pub VerdictAnswer);
-
-pub struct TwoBoundsAnswer(pub BoundsAnswer, pub BoundsAnswer);
-
-pub struct TwoSlotAnswer(pub SlotAnswer, pub SlotAnswer);
+use crate::two::TwoBoundsAnswer;
+use crate::two::TwoSlotAnswer;
+use crate::two::TwoVerdictAnswer;
+use model::Bounds;
+use model::Verdict;
+use model::Written;
 
 pub fn rembasuk_verdict(text: &[u8]) -> TwoVerdictAnswer
     ensures { λ r. ⌜ r .0 ≡ r .1 ⌝ }
@@ -40,5 +37,29 @@ pub fn rembasuk_slot(
 {
     let a = planner::rembasuk_slot(text, s, x);
     let b = planner::rembasuk_slot(text, u, y);
+    TwoSlotAnswer(a, b)
+}
+
+pub fn verdict_numbers(v: Verdict) -> TwoVerdictAnswer
+    ensures { λ r. ⌜ r .0 ≡ r .1 ⌝ }
+{
+    let a = planner::verdict_numbers(v);
+    let b = planner::verdict_numbers(v);
+    TwoVerdictAnswer(a, b)
+}
+
+pub fn bounds_numbers(bounds: Bounds) -> TwoBoundsAnswer
+    ensures { λ r. ⌜ r .0 ≡ r .1 ⌝ }
+{
+    let a = planner::bounds_numbers(bounds);
+    let b = planner::bounds_numbers(bounds);
+    TwoBoundsAnswer(a, b)
+}
+
+pub fn slot_numbers(written: Written) -> TwoSlotAnswer
+    ensures { λ r. ⌜ r .0 ≡ r .1 ⌝ }
+{
+    let a = planner::slot_numbers(written);
+    let b = planner::slot_numbers(written);
     TwoSlotAnswer(a, b)
 }

@@ -1,5 +1,17 @@
-// The records' methods, and the rules of a line and of a record.
+// The methods of the records, and the rules of a line and of a record, each called twice.
 ghost use mathlib.Core.Path.{_≡_};
+use crate::two::TwoBool;
+use crate::two::TwoChannelMap;
+use crate::two::TwoFault;
+use crate::two::TwoFlow;
+use crate::two::TwoFlowSet;
+use crate::two::TwoLimits;
+use crate::two::TwoRefusal;
+use crate::two::TwoSlot;
+use crate::two::TwoSpan;
+use crate::two::TwoState;
+use crate::two::TwoU16;
+use crate::two::TwoU32;
 use model::ChannelMap;
 use model::Fault;
 use model::Flow;
@@ -9,30 +21,6 @@ use model::Refusal;
 use model::Slot;
 use model::Span;
 use model::State;
-
-pub struct TwoSlot(pub Slot, pub Slot);
-
-pub struct TwoSpan(pub Span, pub Span);
-
-pub struct TwoBool(pub bool, pub bool);
-
-pub struct TwoChannelMap(pub ChannelMap, pub ChannelMap);
-
-pub struct TwoU32(pub u32, pub u32);
-
-pub struct TwoFlow(pub Flow, pub Flow);
-
-pub struct TwoFlowSet(pub FlowSet, pub FlowSet);
-
-pub struct TwoState(pub State, pub State);
-
-pub struct TwoLimits(pub Limits, pub Limits);
-
-pub struct TwoU16(pub u16, pub u16);
-
-pub struct TwoRefusal(pub Refusal, pub Refusal);
-
-pub struct TwoFault(pub Fault, pub Fault);
 
 pub fn slot_after(t: Slot, n: Span) -> TwoSlot
     ensures { λ r. ⌜ r .0 ≡ r .1 ⌝ }
@@ -183,4 +171,44 @@ pub fn record_fault(s: FlowSet) -> TwoFault
     let a = rules::record_fault(s);
     let b = rules::record_fault(s);
     TwoFault(a, b)
+}
+
+pub fn fault_none() -> TwoFault
+    ensures { λ r. ⌜ r .0 ≡ r .1 ⌝ }
+{
+    let a = Fault::none();
+    let b = Fault::none();
+    TwoFault(a, b)
+}
+
+pub fn fault_of(refusal: Refusal) -> TwoFault
+    ensures { λ r. ⌜ r .0 ≡ r .1 ⌝ }
+{
+    let a = Fault::of(refusal);
+    let b = Fault::of(refusal);
+    TwoFault(a, b)
+}
+
+pub fn fault_refuses(fault: Fault) -> TwoBool
+    ensures { λ r. ⌜ r .0 ≡ r .1 ⌝ }
+{
+    let a = fault.refuses();
+    let b = fault.refuses();
+    TwoBool(a, b)
+}
+
+pub fn span_slots(d: Span) -> TwoU16
+    ensures { λ r. ⌜ r .0 ≡ r .1 ⌝ }
+{
+    let a = d.slots();
+    let b = d.slots();
+    TwoU16(a, b)
+}
+
+pub fn bit(test: bool) -> TwoU32
+    ensures { λ r. ⌜ r .0 ≡ r .1 ⌝ }
+{
+    let a = model::bit(test);
+    let b = model::bit(test);
+    TwoU32(a, b)
 }

@@ -1,14 +1,8 @@
-// The reader and the writer of sets.
+// The reader and the writer of sets, each called twice.
 ghost use mathlib.Core.Path.{_≡_};
+use crate::two::TwoReading;
+use crate::two::TwoWritten;
 use model::FlowSet;
-use model::Reading;
-use model::Written;
-
-pub struct TwoReading(pub Reading, pub Reading);
-
-pub struct TwoWritten(pub Written, pub Written);
-
-pub struct TwoBool(pub bool, pub bool);
 
 pub fn read(text: &[u8]) -> TwoReading
     ensures { λ r. ⌜ r .0 ≡ r .1 ⌝ }
@@ -16,14 +10,6 @@ pub fn read(text: &[u8]) -> TwoReading
     let a = text::read(text);
     let b = text::read(text);
     TwoReading(a, b)
-}
-
-pub fn stored(s: FlowSet) -> TwoBool
-    ensures { λ r. ⌜ r .0 ≡ r .1 ⌝ }
-{
-    let a = text::stored(s);
-    let b = text::stored(s);
-    TwoBool(a, b)
 }
 
 pub fn write(s: FlowSet, x: &mut [u8], y: &mut [u8]) -> TwoWritten

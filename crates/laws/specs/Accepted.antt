@@ -1,7 +1,8 @@
--- What a set has that the record check finds no fault in. Each rule is a test that failed, and the first fault is the only one that counts.
+-- What a set has in which the record check finds no fault: each rule refuses by a test, so each test failed.
 use mathlib.Core.Path.{_≡_, refl, sym, _∙_}
 use mathlib.Core.Bool.{Bool, true, false, _||_, cond, false≢true}
 use Prim.Native.Nat.{ℕ, zero, suc, _+_, _-_, _*_, _/_, _≤_, _<_, zero-le}
+use native.Mathlib.Nat.{mul-le-mul}
 use native.Mathlib.Decide.{decLe}
 use native.Mathlib.Omega.{arith}
 use borrow.Author.Tests.{ltb-false, leb-false, eqb-false}
@@ -13,10 +14,11 @@ use Rattle.model.specs.declared.kinds.FlowSet.{FlowSet}
 use Rattle.model.specs.declared.answers.Fault.{Fault}
 use Rattle.model.specs.declared.answers.Refusal.{Refusal}
 use Rattle.model.specs.declared.answers.Refusal.the-variants.{Nothing, TooManyFlows, BadPeriod, BadDeadline, BadTries, BadRoute, NodeTwice, TooMuchWork}
-use Rattle.model.specs.Limits.{mostFlows, mostNodes}
+use Rattle.model.specs.Limits.{mostFlows, mostNodes, mostLinks}
 use Rattle.model.specs.Refusals.{good, faultAt, orElse}
-use Rattle.model.specs.Sets.{flowAt, work}
+use Rattle.model.specs.Sets.{flowAt, links, work}
 use Rattle.document.specs.Reader.{twice, flowFault, flowsFault, recordFault, recordFlowFault, mapFault}
+use Rattle.laws.specs.SumLaws.{neither}
 
 -- rules 4 to 9 of one flow
 pub record GoodFlow (f : Flow) : Type 0 where
@@ -29,6 +31,13 @@ pub record GoodFlow (f : Flow) : Type 0 where
   pub nodes-le : f .nodes ≤ mostNodes
   pub once : twice (f .route) ≡ false
   pub work-le : work f ≤ f .deadline .0
+
+-- at most 16 links of at most 4 tries
+pub work-small : (f : Flow) → GoodFlow f → work f ≤ 64
+work-small f g =
+    let n = g .nodes-le in
+    let l : links f ≤ mostLinks = omega arith in
+    mul-le-mul l (g .tries-le)
 
 -- rules 2 to 9 of a set
 pub record Accepted (s : FlowSet) : Type 0 where
@@ -48,10 +57,6 @@ or-else-good f g h = go (good (f .refusal)) refl h
 pass : (b : Bool) (x y : Refusal) → good x ≡ false → good (cond b x y) ≡ true → (b ≡ false) × (good y ≡ true)
 pass true x y n h = absurd (false≢true (sym n ∙ h))
 pass false x y n h = (refl, h)
-
-neither : (p q : Bool) → (p || q) ≡ false → (p ≡ false) × (q ≡ false)
-neither true q h = absurd (false≢true (sym h))
-neither false q h = (refl, h)
 
 pos-of : (n : ℕ) → eqb n 0 ≡ false → 0 < n
 pos-of zero h = absurd (eqb-false 0 0 h refl)

@@ -1,9 +1,12 @@
-pub mod Sums
+pub mod SumLaws
+pub mod Members
+pub mod RadioChannels
+pub mod Padded
 pub mod Used
 pub mod Accepted
 pub mod Values
 pub mod Rounds
 pub mod Largest
-pub mod BothTests
+pub mod TestAnswers
 pub mod Codes
 pub mod Nodes

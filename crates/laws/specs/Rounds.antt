@@ -16,7 +16,7 @@ use Rattle.model.specs.declared.kinds.FlowSet.{FlowSet}
 use Rattle.model.specs.Sums.{sumTo}
 use Rattle.document.specs.Text.{same}
 use Rattle.document.specs.Delay.{deadline, workAt, valueAt, deadlines, lowered, roundTo, roundOf, Reached, roundsIn, mostRounds, reached}
-use Rattle.laws.specs.Sums.{sum-le, sum-ext, and-l, and-r}
+use Rattle.laws.specs.SumLaws.{sum-le, sum-ext, and-l, and-r}
 use Rattle.laws.specs.Accepted.{Accepted}
 use Rattle.laws.specs.Values.{value-le, value-ge-work, deadlines-length, deadlines-entry}
 

@@ -14,7 +14,7 @@ use Rattle.model.specs.declared.kinds.Flow.{Flow}
 use Rattle.model.specs.declared.kinds.FlowSet.{FlowSet}
 use Rattle.model.specs.Sets.{flowAt, listTo, links, work}
 use Rattle.document.specs.Delay.{ways, deadline, workAt, touches, conflictWork, share, wholeShare, conflictShare, overOthers, joined, boundWith, remainder, basicBound, tightened, valueAt, deadlines}
-use Rattle.laws.specs.Sums.{sum-le, sum-ext, sum-add, bits-le}
+use Rattle.laws.specs.SumLaws.{sum-le, sum-ext, sum-add, bits-le}
 
 -- S is at most C
 pub conflict-le-work : (k l : Flow) → conflictWork k l ≤ work l

@@ -1,2 +1,3 @@
-// Theorems alone, in `specs/`: laws of the definitions; what the rounds of the tightened test reach, and how many they are; the argument
-// that a packet is done in time, on plain numbers.
+// Theorems alone, in `specs/`: laws of document 01's definitions that several crates use. Sums, lists, nodes of a route, radio channels, lists
+// filled up; what an accepted set has, what `used` keeps, a refusal by its code; the equation's value, what the rounds of the tightened test
+// reach and how many they are, and what document 01 says of the two tests' answers.

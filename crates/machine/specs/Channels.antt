@@ -67,10 +67,6 @@ channels-ones m (suc n) =
     one (suc zero) h = refl
     one (suc (suc b)) h = absurd (omega arith)
 
--- a map's channels are as many as its ones
-pub channels-length : (m : ℕ) → m < 2 ^ mostChannels → length (channels m) ≡ ones m
-channels-length m h = channels-ones m mostChannels ∙ ap ones (mod-eq-of-lt h)
-
 -- each bit adds as many channels as it is
 pub channels-more : (m i : ℕ) → length (channelsTo m (i + 1)) ≡ length (channelsTo m i) + bitAt m i
 channels-more m i =

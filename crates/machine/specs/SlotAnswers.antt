@@ -18,11 +18,11 @@ use Rattle.model.specs.declared.answers.Delivery.{Delivery}
 use Rattle.model.specs.Limits.{lastSlot, mostChannels, mostFlows}
 use Rattle.model.specs.Sums.{bit}
 use Rattle.model.specs.Sets.{flowAt, memb, filterTo, work}
-use Rattle.document.specs.Machine.{releaseAt, countAt, hadAt, placedAt, radioChannel, sendOf, sendsFrom, countAfter, deliveredAt, deliveriesOf, droppedAt, nextState, filled, noSend, noDelivery, countWith, deliveredWith, droppedWith, nextWith}
-use Rattle.machine.specs.Lists.{Through, is-listTo, filled-put, filter-hit}
-use Rattle.machine.specs.Dues.{Tables, Seen, next-is}
-use Rattle.machine.specs.Order.{Each}
-use Rattle.machine.specs.Choice.{Choice, placed-ready}
+use Rattle.document.specs.Machine.{releaseAt, countAt, hadAt, radioChannel, sendOf, sendsFrom, deliveriesOf, filled, noSend, noDelivery, countWith, deliveredWith, droppedWith, nextWith, Priority, placedWith}
+use Rattle.machine.specs.ArrayLists.{Through, is-listTo, filled-put, filter-hit}
+use Rattle.machine.specs.PacketNumbers.{Columns, Packets, next-is}
+use Rattle.machine.specs.ReadyOrder.{Each}
+use Rattle.machine.specs.PlacedChoice.{Choice, placed-ready}
 
 -- the transmission of flow k with n had, at this offset
 abbrev pub sendIn : ℕ → Slot → List ℕ → List (List ℕ) → ℕ → ℕ → ℕ → Send
@@ -98,11 +98,11 @@ droppedBy t start due sent work marked k =
     leb (getD start k 0) t && eqb (t + 1) (getD due k 0) && ltb (getD sent k 0 + getD marked k 0) (getD work k 0)
 
 -- a count after the slot
-pub count-after : (s : FlowSet) (st : State) (k : ℕ) → countAfter s st k ≡ hadAt s st k + bit (memb k (placedAt s st))
+pub count-after : (first : Priority) (s : FlowSet) (st : State) (k : ℕ) → countWith first s st k ≡ hadAt s st k + bit (memb k (placedWith first s st))
 unfolding countWith
-count-after s st k = next-is (flowAt s k) (st .slot .0) (countAt st k) (memb k (placedAt s st)) (λ e. placed-ready s st k e .1)
+count-after first s st k = next-is (flowAt s k) (st .slot .0) (countAt st k) (memb k (placedWith first s st)) (λ e. placed-ready first s st k e .1)
 
-module _ (s : FlowSet) (st : State) (start deadline work due sent : List ℕ) (t : Tables s start deadline work) (v : Seen s st due sent) where
+module _ (s : FlowSet) (st : State) (start deadline work due sent : List ℕ) (t : Columns s start deadline work) (v : Packets s st due sent) where
   pub deliveries-by : (ks : List ℕ) → deliveriesBy (st .slot .0) deadline due ks ≡ deliveriesOf s st ks
   unfolding deliveriesBy deliveriesOf
   deliveries-by [] = refl
@@ -112,30 +112,31 @@ module _ (s : FlowSet) (st : State) (start deadline work due sent : List ℕ) (t
       back : getD due k 0 - getD deadline k 0 ≡ releaseAt (flowAt s k) (st .slot .0)
       back = rw (v .dues k, t .deadlines k) (omega arith)
 
-  module _ (chosen marked : List ℕ) (n : ℕ) (c : Choice (placedAt s st) chosen marked n) where
-    pub delivered-by : deliveredBy sent work marked ≡ deliveredAt s st
+  -- the placed packets in arrays, for any order of priority
+  module _ (first : Priority) (chosen marked : List ℕ) (n : ℕ) (c : Choice (placedWith first s st) chosen marked n) where
+    pub delivered-by : deliveredBy sent work marked ≡ deliveredWith first s st
     unfolding deliveredWith
-    delivered-by = fun-ext (λ k. ap₂ (λ (a b : Bool). a && b) (ap (λ (x : ℕ). eqb x 1) (c .marks k) ∙ one (memb k (placedAt s st))) (ap₂ (λ (x y : ℕ). eqb (x + 1) y) (v .hads k) (t .works k)))
+    delivered-by = fun-ext (λ k. ap₂ (λ (a b : Bool). a && b) (ap (λ (x : ℕ). eqb x 1) (c .marks k) ∙ one (memb k (placedWith first s st))) (ap₂ (λ (x y : ℕ). eqb (x + 1) y) (v .hads k) (t .works k)))
       where
         one : (b : Bool) → eqb (bit b) 1 ≡ b
         one true = refl
         one false = refl
 
-    pub after-by : (k : ℕ) → getD sent k 0 + getD marked k 0 ≡ countAfter s st k
-    after-by k = ap₂ (λ (x y : ℕ). x + y) (v .hads k) (c .marks k) ∙ sym (count-after s st k)
+    pub after-by : (k : ℕ) → getD sent k 0 + getD marked k 0 ≡ countWith first s st k
+    after-by k = ap₂ (λ (x y : ℕ). x + y) (v .hads k) (c .marks k) ∙ sym (count-after first s st k)
 
-    pub dropped-by : droppedBy (st .slot .0) start due sent work marked ≡ droppedAt s st
+    pub dropped-by : droppedBy (st .slot .0) start due sent work marked ≡ droppedWith first s st
     unfolding droppedWith
     dropped-by = fun-ext (λ k. rw (t .starts k, v .dues k, t .works k, after-by k))
 
     -- an array with each flow's next count is the next state's
     pub next-by : (counts : List ℕ) → length sent ≡ mostFlows → ((k : ℕ) → s .count ≤ k → getD sent k 0 ≡ 0)
-        → Through (λ k. getD sent k 0 + getD marked k 0) (s .count) sent counts → counts ≡ nextState s st .sent
+        → Through (λ k. getD sent k 0 + getD marked k 0) (s .count) sent counts → counts ≡ nextWith first s st .sent
     unfolding nextWith
     next-by counts l z h =
-        is-listTo (λ k. cond (ltb k (s .count)) (countAfter s st k) 0) mostFlows counts (h .long ∙ l) (λ k i. at k (ltb k (s .count)) refl)
+        is-listTo (λ k. cond (ltb k (s .count)) (countWith first s st k) 0) mostFlows counts (h .long ∙ l) (λ k i. at k (ltb k (s .count)) refl)
       where
-        at : (k : ℕ) (b : Bool) → ltb k (s .count) ≡ b → getD counts k 0 ≡ cond b (countAfter s st k) 0
+        at : (k : ℕ) (b : Bool) → ltb k (s .count) ≡ b → getD counts k 0 ≡ cond b (countWith first s st k) 0
         at k true e = h .below k (ltb-true _ _ e) ∙ after-by k
         at k false e = let f = ltb-false _ _ e in h .above k f ∙ z k f
 

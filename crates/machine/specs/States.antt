@@ -1,7 +1,7 @@
 -- Good states: 12 finds no fault in them, a step leads from one to the next, and a run of n slots from the fresh state ends in a good one
 -- at slot n, as far as the last slot, where a step changes nothing.
 use mathlib.Core.Path.{_≡_, refl, sym, ap, ap₂, _∙_}
-use mathlib.Core.Bool.{Bool, true, false, _||_, cond, false≢true}
+use mathlib.Core.Bool.{Bool, true, false, not, _||_, cond, false≢true}
 use mathlib.Core.List.{[]}
 use Prim.Native.Nat.{ℕ, zero, suc, _+_, _-_, _≤_, _<_, zero-le, min}
 use native.Mathlib.Nat.{le-refl, add-zero}
@@ -23,11 +23,11 @@ use Rattle.model.specs.Sums.{bit, anyTo}
 use Rattle.model.specs.Sets.{flowAt, freshState, memb}
 use Rattle.document.specs.Reader.{recordFault}
 use Rattle.document.specs.Delay.{workAt}
-use Rattle.document.specs.Machine.{releaseAt, countAt, hadAt, placedAt, countAfter, nextState, badState, stepFault, stepped, stepIf, stepOf, runMore, runOf, countWith, nextWith, runWith, stepWith}
-use Rattle.laws.specs.Sums.{any-none}
-use Rattle.machine.specs.Lists.{length-listTo, getD-listTo, getD-zeros}
-use Rattle.machine.specs.Dues.{next-is, ready-if}
-use Rattle.machine.specs.Choice.{placed-ready}
+use Rattle.document.specs.Machine.{releaseAt, countAt, hadAt, nextState, badState, stepFault, stepped, stepIf, stepOf, runMore, runOf, countWith, nextWith, runWith, stepWith, Priority, ahead, placedWith}
+use Rattle.laws.specs.SumLaws.{any-none, neither}
+use Rattle.machine.specs.ArrayLists.{length-listTo, getD-listTo, getD-zeros}
+use Rattle.machine.specs.PacketNumbers.{next-is, ready-if}
+use Rattle.machine.specs.PlacedChoice.{placed-ready}
 
 -- the most that a good state's count may be
 abbrev pub mostCount : FlowSet → ℕ → ℕ
@@ -38,9 +38,14 @@ pub record GoodState (s : FlowSet) (st : State) : Type 0 where
   pub long : length (st .sent) ≡ mostFlows
   pub counts : (k : ℕ) → countAt st k ≤ mostCount s k
 
-neither : (p q : Bool) → (p || q) ≡ false → (p ≡ false) × (q ≡ false)
-neither true q h = absurd (false≢true (sym h))
-neither false q h = (refl, h)
+-- a fault that refuses is not good, and one that does not is
+pub refuses-not-good : (b : Bool) → not b ≡ true → b ≡ false
+refuses-not-good true h = absurd (false≢true h)
+refuses-not-good false h = refl
+
+pub not-refuses-good : (b : Bool) → not b ≡ false → b ≡ true
+not-refuses-good true h = refl
+not-refuses-good false h = absurd (false≢true (sym h))
 
 pub any-all : (p : ℕ → Bool) (n : ℕ) → ((k : ℕ) → k < n → p k ≡ false) → anyTo p n ≡ false
 unfolding anyTo
@@ -74,36 +79,38 @@ fresh-good s =
       counts = λ k. rw (getD-zeros mostFlows k) zero-le;
     }
 
--- the next count is at most C: a packet that is placed was short of it
-pub count-after-le : (s : FlowSet) (st : State) → GoodState s st → (k : ℕ) → k < s .count → countAfter s st k ≤ workAt s k
-unfolding countWith
-count-after-le s st g k h =
-    rw (next-is (flowAt s k) (st .slot .0) (countAt st k) (memb k (placedAt s st)) (λ e. placed-ready s st k e .1))
-    (go (memb k (placedAt s st)) refl)
-  where
-    had-le : (b : Bool) → cond b 0 (countAt st k) ≤ countAt st k
-    had-le true = zero-le
-    had-le false = le-refl _
+-- the laws of this part hold for any order of priority
+module _ (first : Priority) where
+  -- the next count is at most C: a packet that is placed was short of it
+  pub count-after-le : (s : FlowSet) (st : State) → GoodState s st → (k : ℕ) → k < s .count → countWith first s st k ≤ workAt s k
+  unfolding countWith
+  count-after-le s st g k h =
+      rw (next-is (flowAt s k) (st .slot .0) (countAt st k) (memb k (placedWith first s st)) (λ e. placed-ready first s st k e .1))
+      (go (memb k (placedWith first s st)) refl)
+    where
+      had-le : (b : Bool) → cond b 0 (countAt st k) ≤ countAt st k
+      had-le true = zero-le
+      had-le false = le-refl _
 
-    go : (b : Bool) → memb k (placedAt s st) ≡ b → hadAt s st k + bit b ≤ workAt s k
-    go true e = let w = ready-if (flowAt s k) (st .slot .0) (countAt st k) (placed-ready s st k e .1) in omega arith
-    go false e = omega (arith, had-le (eqb (st .slot .0) (releaseAt (flowAt s k) (st .slot .0))), rw (lt-ltb k (s .count) h) at (g .counts k))
+      go : (b : Bool) → memb k (placedWith first s st) ≡ b → hadAt s st k + bit b ≤ workAt s k
+      go true e = let w = ready-if (flowAt s k) (st .slot .0) (countAt st k) (placed-ready first s st k e .1) in omega arith
+      go false e = omega (arith, had-le (eqb (st .slot .0) (releaseAt (flowAt s k) (st .slot .0))), rw (lt-ltb k (s .count) h) at (g .counts k))
 
-pub next-good : (s : FlowSet) (st : State) → GoodState s st → st .slot .0 < lastSlot → GoodState s (nextState s st)
-unfolding nextWith
-next-good s st g h =
-    record {
-      slot-le = omega (arith, h);
-      long = length-listTo _ mostFlows;
-      counts = λ k. elim (decLe mostFlows k) [
-        | yes d ↦ rw (List·getD-eq-default (nextState s st .sent) 0 {n = k} (rw (length-listTo (λ j. cond (ltb j (s .count)) (countAfter s st j) 0) mostFlows) d)) zero-le
-        | no d ↦ rw (getD-listTo (λ j. cond (ltb j (s .count)) (countAfter s st j) 0) mostFlows k (omega arith)) (go k (ltb k (s .count)) refl)
-      ];
-    }
-  where
-    go : (k : ℕ) (b : Bool) → ltb k (s .count) ≡ b → cond b (countAfter s st k) 0 ≤ cond b (workAt s k) 0
-    go k true e = count-after-le s st g k (ltb-true _ _ e)
-    go k false e = zero-le
+  pub next-good : (s : FlowSet) (st : State) → GoodState s st → st .slot .0 < lastSlot → GoodState s (nextWith first s st)
+  unfolding nextWith
+  next-good s st g h =
+      record {
+        slot-le = omega (arith, h);
+        long = length-listTo _ mostFlows;
+        counts = λ k. elim (decLe mostFlows k) [
+          | yes d ↦ rw (List·getD-eq-default (nextWith first s st .sent) 0 {n = k} (rw (length-listTo (λ j. cond (ltb j (s .count)) (countWith first s st j) 0) mostFlows) d)) zero-le
+          | no d ↦ rw (getD-listTo (λ j. cond (ltb j (s .count)) (countWith first s st j) 0) mostFlows k (omega arith)) (go k (ltb k (s .count)) refl)
+        ];
+      }
+    where
+      go : (k : ℕ) (b : Bool) → ltb k (s .count) ≡ b → cond b (countWith first s st k) 0 ≤ cond b (workAt s k) 0
+      go k true e = count-after-le s st g k (ltb-true _ _ e)
+      go k false e = zero-le
 
 -- the answer to a step, by what is wrong
 refused-by : (s : FlowSet) (st : State) (f : Fault) → stepFault s st ≡ f → good (f .refusal) ≡ false → stepOf s st ≡ stepped f st [] [] []
@@ -188,7 +195,7 @@ run-good s h (suc n) l =
     let e : runOf s (suc n) .last ≡ nextState s st =
     rw (← add-one n) (ap (λ (r : Ran). r .last) (run-next s n) ∙ ap (λ (a : Stepped). a .next) (step-good s st h (good-not-bad s st (i .good-last)) b)) in
     record {
-      good-last = rw e (next-good s st (i .good-last) b);
+      good-last = rw e (next-good ahead s st (i .good-last) b);
       slot-is = rw e (next-slot s st ∙ rw (i .slot-is) (add-one n));
     }
 

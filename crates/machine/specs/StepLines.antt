@@ -11,10 +11,10 @@ use Rattle.model.specs.declared.kinds.State.{State}
 use Rattle.model.specs.declared.answers.Send.{Send}
 use Rattle.model.specs.Limits.{mostChannels}
 use Rattle.model.specs.Sets.{used}
-use Rattle.document.specs.Machine.{sendsAt, sendsFrom, placedAt, noSend, filled}
+use Rattle.document.specs.Machine.{sendsAt, sendsFrom, placedAt, noSend, filled, ahead}
 use Rattle.document.specs.Program.{sendLines}
 use Rattle.laws.specs.Used.{used-map}
-use Rattle.machine.specs.Choice.{placed-le}
+use Rattle.machine.specs.PlacedChoice.{placed-le}
 
 length-sends : (s : FlowSet) (st : State) (o : ℕ) (ks : List ℕ) → length (sendsFrom s st o ks) ≡ length ks
 unfolding sendsFrom
@@ -25,7 +25,7 @@ length-sends s st o (k ∷ ks) = ap suc (length-sends s st (o + 1) ks)
 pub sends-few : (s : FlowSet) (st : State) → s .map .0 < 65536 → length (sendsAt (used s) st) ≤ mostChannels
 sends-few s st h =
     let m : used s .map .0 < 2 ^ 16 = rw (used-map s) h in
-    rw (length-sends (used s) st 0 (placedAt (used s) st)) (le-trans (placed-le (used s) st) (ones-le 16 (used s .map .0) m))
+    rw (length-sends (used s) st 0 (placedAt (used s) st)) (le-trans (placed-le ahead (used s) st) (ones-le 16 (used s .map .0) m))
 
 -- the entries of a filled array
 take-filled : (n : ℕ) (l : List Send) → length l ≤ n → take (length l) (filled n noSend l) ≡ l

@@ -1,20 +1,18 @@
-// What the slot machine asks of one packet: its numbers in a slot (absolute deadline, what it has had, delay), whether it is ready,
-// delivered or dropped, the two ends of its link, its place among the deadlines in order, and rule 5's radio channel.
-// Rules 3 and 4: a packet's link, and the packet placed if that shares no node with a placed one.
-// Parts of a step: rule 4's choice among the ready packets, rule 5's sends, and the answer of a step that is refused for its state.
+// Rules 3 and 4: a packet's link, and the choice among the ready packets in their order, each placed if its link shares no node with a
+// placed one.
 ghost use mathlib.Core.Path.{_≡_};
 ghost use mathlib.Core.List.{[], _∷_};
 ghost use Prim.Native.Nat.{_%_, _+_, _-_, _/_, _<_, _≤_, ℕ};
 ghost use Rattle.model.specs.Sets.{meet};
 ghost use lib.ListN.{drop, getD, length, set, take};
 ghost use Rattle.model.specs.Limits.{mostChannels, mostFlows, mostLinks};
-ghost use Rattle.machine.specs.Choice.{Choice, OneMore, clashEnds, clashOf};
-ghost use Rattle.machine.specs.Links.{Busy, linkIn};
+ghost use Rattle.machine.specs.PlacedChoice.{Choice, OneMore, clashEnds, clashOf};
+ghost use Rattle.machine.specs.LinkColumns.{Busy, linkIn};
 ghost use mathlib.Core.Bool.{not};
-ghost use Rattle.machine.specs.Dues.{readyBy};
-ghost use Rattle.machine.specs.PlaceOne.{Judged};
+ghost use Rattle.machine.specs.PacketNumbers.{readyBy};
+ghost use Rattle.machine.specs.PlacedIfReady.{PlacedIfReady};
 ghost use Rattle.document.specs.Machine.{place};
-ghost use Rattle.machine.specs.Order.{keep};
+ghost use Rattle.machine.specs.ReadyOrder.{keep};
 use crate::packets::is_ready;
 use model::ChannelMap;
 use model::Flow;
@@ -25,8 +23,8 @@ pub struct Ends {
     pub to: u16,
 }
 
-// Two links share a node.
-pub fn share_node(a: Ends, b: Ends) -> bool
+// Says whether two links share a node.
+fn share_node(a: Ends, b: Ends) -> bool
     ensures { λ r. ⌜ r ≡ meet (a .from ∷ a .to ∷ []) (b .from ∷ b .to ∷ []) ⌝ }
 {
     if a.from == b.from {
@@ -41,8 +39,8 @@ pub fn share_node(a: Ends, b: Ends) -> bool
     a.to == b.to
 }
 
-// The classes of a link's ends marked.
-pub fn mark_ends(a: Ends, busy: &mut [u8; 256])
+// Marks the classes of a link's ends; a node's class is its number mod 256.
+fn mark_ends(a: Ends, busy: &mut [u8; 256])
     ensures { λ r. ⌜ now (busy .exit) ≡ set (set (now (busy .entry)) (a .from % 256) 1) (a .to % 256) 1 ⌝ }
 {
     let f = (a.from % 256) as usize;
@@ -68,8 +66,8 @@ pub fn ends_of(
     Ends { from, to }
 }
 
-// A link shares a node with a placed one.
-fn clashes(
+// Says whether a link shares a node with a placed one, by comparing it with each.
+fn compare_with_placed(
     a: Ends,
     from: &[u16; ChannelMap::MOST],
     to: &[u16; ChannelMap::MOST],
@@ -92,8 +90,8 @@ fn clashes(
     false
 }
 
-// Whether a link shares a node with a placed one: none does whose ends' classes are not marked.
-fn is_taken(
+// Says whether a link shares a node with a placed one. A link whose ends' classes are not marked shares none, and is not compared.
+fn shares_with_placed(
     a: Ends,
     from: &[u16; ChannelMap::MOST],
     to: &[u16; ChannelMap::MOST],
@@ -109,13 +107,13 @@ fn is_taken(
         if busy[g] == 0 {
             return false;
         }
-        return clashes(a, from, to, placed);
+        return compare_with_placed(a, from, to, placed);
     }
-    clashes(a, from, to, placed)
+    compare_with_placed(a, from, to, placed)
 }
 
-// Flow k placed, if its link shares no node with a placed one; how many then are.
-fn place_one(
+// Places flow k if its link shares no node with a placed one; how many are placed then.
+fn place_if_free(
     k: usize,
     a: Ends,
     placed: usize,
@@ -129,7 +127,7 @@ fn place_one(
     ensures one { λ r. ⌜ OneMore (not (clashEnds (a .from) (a .to) (now (from .entry)) (now (to .entry)) placed)) k (a .from) (a .to) placed (now (from .entry)) (now (to .entry)) (now (chosen .entry)) (now (marked .entry)) (now (from .exit)) (now (to .exit)) (now (chosen .exit)) (now (marked .exit)) r ⌝ }
     ensures busy { λ r. ⌜ Busy (now (busy .exit)) (now (from .exit)) (now (to .exit)) r ⌝ }
 {
-    if is_taken(a, from, to, busy, placed) {
+    if shares_with_placed(a, from, to, busy, placed) {
         return placed;
     }
     mark_ends(a, busy);
@@ -140,8 +138,8 @@ fn place_one(
     placed + 1
 }
 
-// Flow k placed, if its packet is ready and its link shares no node with a placed one; how many then are.
-pub fn judge_flow(
+// Places flow k if its packet is ready and its link shares no node with a placed one; how many are placed then.
+fn place_if_ready(
     k: usize,
     t: u32,
     start: &[u32; Flow::MOST],
@@ -159,12 +157,12 @@ pub fn judge_flow(
 ) -> usize
     requires { ⌜ (k < mostFlows) × (placed < mostChannels) × Busy (now busy) (now from) (now to) placed × (length (now from) ≡ mostChannels) × (length (now to) ≡ mostChannels) ⌝ }
     requires { ⌜ (getD (now sent) k 0 < getD (now work) k 0 → (0 < getD (now tries) k 0) × (getD (now sent) k 0 / getD (now tries) k 0 < mostLinks)) ⌝ }
-    ensures one { λ r. ⌜ Judged (now (sent .entry)) (now (tries .entry)) (now (routes .entry)) (readyBy (now (start .entry)) (now (due .entry)) (now (sent .entry)) (now (work .entry)) t k) k placed (now (from .entry)) (now (to .entry)) (now (chosen .entry)) (now (marked .entry)) (now (from .exit)) (now (to .exit)) (now (chosen .exit)) (now (marked .exit)) r ⌝ }
+    ensures one { λ r. ⌜ PlacedIfReady (now (sent .entry)) (now (tries .entry)) (now (routes .entry)) (readyBy (now (start .entry)) (now (due .entry)) (now (sent .entry)) (now (work .entry)) t k) k placed (now (from .entry)) (now (to .entry)) (now (chosen .entry)) (now (marked .entry)) (now (from .exit)) (now (to .exit)) (now (chosen .exit)) (now (marked .exit)) r ⌝ }
     ensures busy { λ r. ⌜ Busy (now (busy .exit)) (now (from .exit)) (now (to .exit)) r ⌝ }
 {
     if is_ready(start[k], due[k], sent[k], work[k], t) {
         let a = ends_of(k, sent[k], tries, routes);
-        return place_one(k, a, placed, from, to, busy, chosen, marked);
+        return place_if_free(k, a, placed, from, to, busy, chosen, marked);
     }
     placed
 }
@@ -181,27 +179,27 @@ pub fn choose(
     tries: &[u16; Flow::MOST],
     routes: &[[u16; Flow::MOST_NODES]; Flow::MOST],
     order: &[usize; Flow::MOST],
-    lined: usize,
+    waiting: usize,
     chosen: &mut [usize; ChannelMap::MOST],
     marked: &mut [u8; Flow::MOST],
 ) -> usize
-    requires { ⌜ (ways ≤ mostChannels) × (lined ≤ mostFlows) × (length (now order) ≡ mostFlows) × (length (now chosen) ≡ mostChannels) × (length (now marked) ≡ mostFlows) ⌝ }
+    requires { ⌜ (ways ≤ mostChannels) × (waiting ≤ mostFlows) × (length (now order) ≡ mostFlows) × (length (now chosen) ≡ mostChannels) × (length (now marked) ≡ mostFlows) ⌝ }
     requires { ⌜ ((k : ℕ) → getD (now marked) k 0 ≡ 0) ⌝ }
-    requires { ⌜ ((i : ℕ) → i < lined → getD (now order) i 0 < mostFlows) ⌝ }
+    requires { ⌜ ((i : ℕ) → i < waiting → getD (now order) i 0 < mostFlows) ⌝ }
     requires { ⌜ ((k : ℕ) → getD (now sent) k 0 < getD (now work) k 0 → (0 < getD (now tries) k 0) × (getD (now sent) k 0 / getD (now tries) k 0 < mostLinks)) ⌝ }
-    ensures { λ r. ⌜ Choice (place ways (clashOf (linkIn (now (sent .entry)) (now (tries .entry)) (now (routes .entry)))) [] (keep (readyBy (now (start .entry)) (now (due .entry)) (now (sent .entry)) (now (work .entry)) t) (take lined (now (order .entry))))) (now (chosen .exit)) (now (marked .exit)) r × (drop r (now (chosen .exit)) ≡ drop r (now (chosen .entry))) ⌝ }
+    ensures { λ r. ⌜ Choice (place ways (clashOf (linkIn (now (sent .entry)) (now (tries .entry)) (now (routes .entry)))) [] (keep (readyBy (now (start .entry)) (now (due .entry)) (now (sent .entry)) (now (work .entry)) t) (take waiting (now (order .entry))))) (now (chosen .exit)) (now (marked .exit)) r × (drop r (now (chosen .exit)) ≡ drop r (now (chosen .entry))) ⌝ }
 {
     let mut from = [0u16; ChannelMap::MOST];
     let mut to = [0u16; ChannelMap::MOST];
     let mut busy = [0u8; 256];
     let mut placed = 0;
     let mut i = 0;
-    while i < lined {
+    while i < waiting {
         if placed == ways {
             return placed;
         }
         let k = order[i];
-        placed = judge_flow(
+        placed = place_if_ready(
             k,
             t,
             start,

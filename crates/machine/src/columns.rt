@@ -1,6 +1,4 @@
-// Functions over plain numbers: bounds that numbers have by their width, differences that end at 0, the smaller and the larger of two;
-// q and r of two flows; a deadline less a bound; the four bytes of a slot.
-// The numbers of a set's flows in arrays, and where each flow stands in a slot.
+// The numbers of a set's flows, each kind in an array of its own, and each flow's absolute deadline and count in a slot.
 ghost use mathlib.Core.Path.{_≡_};
 ghost use Prim.Native.Nat.{_+_, _-_, _<_, _≤_, ℕ};
 ghost use lib.ListN.{getD, length, set};
@@ -10,24 +8,17 @@ ghost use Rattle.model.specs.Refusals.{good};
 ghost use Rattle.document.specs.Reader.{recordFault};
 ghost use Rattle.model.specs.Sets.{flowAt, used};
 ghost use Rattle.document.specs.Delay.{workAt};
-ghost use Rattle.machine.specs.Lists.{Through};
-ghost use Rattle.machine.specs.Links.{Routes};
-ghost use Rattle.machine.specs.Dues.{dueIn, hadIn};
-use crate::packets::due_of;
+ghost use Rattle.machine.specs.ArrayLists.{Through};
+ghost use Rattle.machine.specs.LinkColumns.{Routes};
+ghost use Rattle.machine.specs.PacketNumbers.{dueIn, hadIn};
+use crate::packets::absolute_deadline;
 use crate::packets::had_of;
 use model::Flow;
 use model::FlowSet;
 use model::Slot;
 use model::Span;
 
-// A 16-bit number, with the bound that it has by its width.
-pub fn bounded(x: u16) -> u16
-    ensures { λ r. ⌜ (r ≡ x) × (r ≤ 65535) ⌝ }
-{
-    x
-}
-
-// Flow k's tries and route put in their places. A record says nothing of its array's length, so it is said here.
+// Puts flow k's tries and route in their places, and says how long the route's array is, since the record does not.
 fn put_route(
     k: usize,
     f: Flow,
@@ -44,8 +35,8 @@ fn put_route(
     routes[k] = route;
 }
 
-// An accepted set's starts, periods, deadlines, C, tries and routes, in the first entries of six arrays.
-pub fn tables(
+// Puts an accepted set's starts, periods, deadlines, C, tries and routes, in the first entries of six arrays.
+pub fn columns_of(
     s: FlowSet,
     start: &mut [u32; Flow::MOST],
     period: &mut [u16; Flow::MOST],
@@ -69,16 +60,16 @@ pub fn tables(
         let f = s.flows[k];
         let first = f.first_release();
         start[k] = first.0;
-        period[k] = bounded(f.period.0);
-        deadline[k] = bounded(f.deadline.0);
+        period[k] = f.period.slots();
+        deadline[k] = f.deadline.slots();
         work[k] = f.work() as u8;
         put_route(k, f, tries, routes);
         k += 1;
     }
 }
 
-// Each flow's absolute deadline in slot t.
-pub fn dues(
+// Sets each flow's absolute deadline in slot t.
+pub fn deadlines_in(
     count: usize,
     t: u32,
     start: &[u32; Flow::MOST],
@@ -92,13 +83,13 @@ pub fn dues(
 {
     let mut k = 0;
     while k < count {
-        let end = due_of(Slot(start[k]), Span(period[k]), Span(deadline[k]), Slot(t));
+        let end = absolute_deadline(Slot(start[k]), Span(period[k]), Span(deadline[k]), Slot(t));
         due[k] = end.0;
         k += 1;
     }
 }
 
-// Each flow's count, back at 0 in a release slot.
+// Sets each flow's count to 0 in a release slot of the flow.
 pub fn restart(
     count: usize,
     t: u32,

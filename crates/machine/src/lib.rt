@@ -21,15 +21,14 @@ use model::State;
 use model::Stepped;
 pub use slot::step_accepted;
 
-// So many slots from the fresh state, as far as the last slot: the state reached, and how many packets were delivered and dropped. A
-// refused set stays at the fresh state.
+// Runs a budget of slots from the fresh state, as far as the last slot: the state reached, and how many packets were delivered and dropped.
+// A refused set stays at the fresh state.
 pub fn run(s: FlowSet, budget: u32) -> Ran
     ensures { λ r. ⌜ r ≡ runOf (used s) budget ⌝ }
     ensures kept { λ r. ⌜ (Admitted (used s) → r .dropped ≡ 0) ⌝ }
 {
     let fault = rules::record_fault(s);
-    let refusal = fault.refusal;
-    if refusal.code() != 0 {
+    if fault.refuses() {
         return Ran {
             fault,
             last: State::fresh(),
@@ -46,8 +45,7 @@ pub fn step(s: FlowSet, st: State) -> Stepped
     ensures { λ r. ⌜ r ≡ stepOf (used s) st ⌝ }
 {
     let fault = rules::record_fault(s);
-    let refusal = fault.refusal;
-    if refusal.code() != 0 {
+    if fault.refuses() {
         return refused(fault, st);
     }
     step_accepted(s, st)

@@ -1,15 +1,14 @@
-// What the slot machine asks of one packet: its numbers in a slot (absolute deadline, what it has had, delay), whether it is ready,
-// delivered or dropped, the two ends of its link, its place among the deadlines in order, and rule 5's radio channel.
+// One packet in one slot: its absolute deadline, what it has had, its delay, and whether it is ready, delivered or dropped.
 ghost use mathlib.Core.Path.{_≡_};
 ghost use Prim.Native.Nat.{_+_, _-_, _<_, min};
-ghost use Rattle.machine.specs.Dues.{dueIn, readyIn};
+ghost use Rattle.machine.specs.PacketNumbers.{dueIn, readyIn};
 ghost use mathlib.Core.Bool.{_&&_, cond};
 ghost use lib.Dec.{eqb, leb, ltb};
 use model::Slot;
 use model::Span;
 
 // The absolute deadline of a flow's latest packet, or of its first one before that is released.
-pub fn due_of(first: Slot, period: Span, deadline: Span, t: Slot) -> Slot
+pub fn absolute_deadline(first: Slot, period: Span, deadline: Span, t: Slot) -> Slot
     ensures { λ r. ⌜ r .0 ≡ min (dueIn (first .0) (period .0) (deadline .0) (t .0)) 4294967295 ⌝ }
 {
     let release = t.release(first, period);

@@ -1,13 +1,12 @@
-// What a run's slot begins with: its releases made and its packets in order; and what it ends with: how many packets are delivered and
-// dropped, and each flow's next count. Beside each flow's absolute deadline a run keeps the flow's next release, so that a slot without a
-// release costs one comparison and one with a release divides nothing.
+// The releases of a run's slot. Beside each flow's absolute deadline a run keeps the flow's next release, so that a slot without a release
+// costs one comparison and one with a release divides nothing.
 ghost use mathlib.Core.Path.{_≡_};
 ghost use Prim.Native.Nat.{_+_, _<_, _≤_, min, ℕ};
 ghost use lib.ListN.{getD, length};
-ghost use Rattle.machine.specs.Releases.{Released};
+ghost use Rattle.machine.specs.NextReleases.{Released};
 ghost use Rattle.model.specs.Limits.{lastSlot, mostFlows};
-ghost use Rattle.machine.specs.Runs.{Line, Turned};
-use crate::order::line_up;
+ghost use Rattle.machine.specs.RunSlots.{AfterReleases, WaitingInOrder, numbersOf, runArraysOf};
+use crate::order::order_ready;
 use model::Flow;
 use model::Slot;
 use model::Span;
@@ -19,7 +18,8 @@ fn earlier(a: u32, b: u32) -> u32
     if a <= b { a } else { b }
 }
 
-// The releases of slot t: the packet's absolute deadline, the next release, and a count that starts again. The soonest of the next releases.
+// Makes the releases of slot t: each released packet's absolute deadline, its flow's next release, and a count that starts again. Answers
+// the soonest of the next releases.
 fn release(
     count: usize,
     t: u32,
@@ -54,14 +54,14 @@ fn release(
     soonest
 }
 
-// No release comes before `soonest`, and until then the first `lined` entries of the order hold every ready packet.
-pub struct Awaited {
+// No release comes before `soonest`, and until then the first `waiting` entries of the order hold every ready packet.
+pub struct UntilRelease {
     pub soonest: u32,
-    pub lined: usize,
+    pub waiting: usize,
 }
 
-// Slot t with its releases made, if it has any: only then are the packets put in order anew.
-pub fn turn(
+// Makes the releases of slot t, if it has any. Only then are the packets put in order anew, by absolute deadline.
+pub fn release_packets(
     count: usize,
     t: u32,
     start: &[u32; Flow::MOST],
@@ -69,25 +69,25 @@ pub fn turn(
     deadline: &[u16; Flow::MOST],
     work: &[u8; Flow::MOST],
     soonest: u32,
-    lined: usize,
+    waiting: usize,
     due: &mut [u32; Flow::MOST],
     next: &mut [u32; Flow::MOST],
     sent: &mut [u8; Flow::MOST],
     order: &mut [usize; Flow::MOST],
-) -> Awaited
-    requires { ⌜ (count ≤ mostFlows) × (t ≤ lastSlot) × (lined ≤ mostFlows) × (length (now due) ≡ mostFlows) × (length (now next) ≡ mostFlows) × (length (now sent) ≡ mostFlows) × (length (now order) ≡ mostFlows) ⌝ }
+) -> UntilRelease
+    requires { ⌜ (count ≤ mostFlows) × (t ≤ lastSlot) × (waiting ≤ mostFlows) × (length (now due) ≡ mostFlows) × (length (now next) ≡ mostFlows) × (length (now sent) ≡ mostFlows) × (length (now order) ≡ mostFlows) ⌝ }
     requires { ⌜ ((k : ℕ) → (getD (now period) k 0 ≤ 65535) × (getD (now deadline) k 0 ≤ 65535)) ⌝ }
     requires { ⌜ ((k : ℕ) → k < count → soonest ≤ getD (now next) k 0) ⌝ }
-    requires { ⌜ (t < soonest → Line count t (now start) (now work) (now due) (now sent) (now order) lined) ⌝ }
-    ensures { λ r. ⌜ Turned count t (now (start .entry)) (now (period .entry)) (now (deadline .entry)) (now (work .entry)) (now (due .entry)) (now (next .entry)) (now (sent .entry)) (now (due .exit)) (now (next .exit)) (now (sent .exit)) (now (order .exit)) (r .soonest) (r .lined) ⌝ }
+    requires { ⌜ (t < soonest → WaitingInOrder count t (now start) (now work) (now due) (now sent) (now order) waiting) ⌝ }
+    ensures { λ r. ⌜ AfterReleases count t (numbersOf (now (start .entry)) (now (period .entry)) (now (deadline .entry)) (now (work .entry))) (runArraysOf (now (due .entry)) (now (next .entry)) (now (sent .entry)) (now (order .entry)) soonest waiting) (runArraysOf (now (due .exit)) (now (next .exit)) (now (sent .exit)) (now (order .exit)) (r .soonest) (r .waiting)) ⌝ }
 {
     if t < soonest {
-        return Awaited { soonest, lined };
+        return UntilRelease { soonest, waiting };
     }
     let first = release(count, t, period, deadline, due, next, sent);
-    let ready = line_up(count, t, start, due, sent, work, order);
-    Awaited {
+    let ready = order_ready(count, t, due, start, due, sent, work, order);
+    UntilRelease {
         soonest: first,
-        lined: ready,
+        waiting: ready,
     }
 }

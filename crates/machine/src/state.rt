@@ -1,4 +1,4 @@
-// Parts of a step: rule 4's choice among the ready packets, rule 5's sends, and the answer of a step that is refused for its state.
+// Refused steps: what is wrong with a state, and the answer of a step that is refused.
 ghost use mathlib.Core.Path.{_≡_};
 ghost use mathlib.Core.List.{[]};
 ghost use Rattle.document.specs.Machine.{stepped};
@@ -75,19 +75,10 @@ pub fn state_fault(t: u32, sent: &[u8; Flow::MOST], work: &[u8; Flow::MOST]) -> 
     ensures { λ r. ⌜ r ≡ cond (ltb lastSlot t || anyTo (λ k. ltb (getD (now (work .entry)) k 0) (getD (now (sent .entry)) k 0)) mostFlows) (faultAt BadState 0) (cond (leb lastSlot t) (faultAt AtLastSlot 0) noFault) ⌝ }
 {
     if is_bad(t, sent, work) {
-        return Fault {
-            refusal: Refusal::BadState,
-            line: 0,
-        };
+        return Fault::of(Refusal::BadState);
     }
     if State::LAST <= t {
-        return Fault {
-            refusal: Refusal::AtLastSlot,
-            line: 0,
-        };
+        return Fault::of(Refusal::AtLastSlot);
     }
-    Fault {
-        refusal: Refusal::Nothing,
-        line: 0,
-    }
+    Fault::none()
 }

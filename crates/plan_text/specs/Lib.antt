@@ -1,7 +1,8 @@
 pub mod Margins
-pub mod Plans
-pub mod Readings
-pub mod RunLines
+pub mod PlanOfReading
+pub mod ReadSetsPass
+pub mod RunSlotBySlot
 pub mod BoundText
-pub mod Planning
-pub mod PlanLines
+pub mod PlanInBuffer
+pub mod PlanLength
+pub mod ReadingRefused

@@ -1,8 +1,4 @@
-// The slots of a run, one after the other, and the lines of what is sent through slot 11.
-// Answers as they are told. To C: a verdict's, a flow's bounds' and a slot's numbers, what is refused before a slot is made, and a step's
-// answer written into what was lent, the next state and the slot's lines. By the program: the `verdict` and `bound` lines, and the refusal of
-// input that is longer than any set's text, which is not read.
-// The lines of a plan: the verdict, every flow's bounds, and what is sent through slot 11.
+// The lines of a plan: the verdict, every flow's bounds, and what is sent through slot 11; or the refusal of input that is too long to be read.
 ghost use mathlib.Core.Path.{_≡_};
 ghost use Rattle.model.specs.declared.kinds.FlowSet.{FlowSet};
 ghost use Rattle.model.specs.Refusals.{faultAt, noFault};
@@ -12,7 +8,6 @@ ghost use Rattle.document.specs.Program.{boundLines, planOf, refusedLine, runLi
 ghost use Rattle.text.specs.Put.{Put};
 ghost use mathlib.Core.List.{_∷_};
 ghost use Rattle.plan_text.specs.Margins.{marginText};
-ghost use Rattle.model.specs.Sums.{bit};
 ghost use lib.Dec.{ltb};
 ghost use Rattle.model.specs.declared.answers.Refusal.the-variants.{NoRoom};
 ghost use Rattle.plan_text.specs.BoundText.{boundText};
@@ -26,22 +21,29 @@ use model::FlowSet;
 use model::Refusal;
 use model::State;
 use model::Verdict;
+use model::bit;
 use text::put_refused;
 use text::put_sends;
 
+// A plan has the `send` lines of slots 0 to 11.
+const SLOTS: usize = 12;
+
+// Input of more bytes is not read.
+const MOST_INPUT: usize = 16384;
+
 // The `send` lines of the first twelve slots.
-pub fn put_run(out: &mut [u8], at: usize, s: FlowSet) -> usize
+fn put_run(out: &mut [u8], at: usize, s: FlowSet) -> usize
     requires { ⌜ recordFault (used s) ≡ noFault ⌝ }
     ensures { λ r. ⌜ Put (now (out .entry)) at (runLines (used s) 12) (now (out .exit)) r ⌝ }
 {
     let mut st = State::fresh();
     let mut place = at;
     let mut t: usize = 0;
-    while t < 12 {
-        let a = machine::step_accepted(s, st);
-        let sent = a.sent;
-        place = put_sends(out, place, sent, a.sends);
-        let next = a.next;
+    while t < SLOTS {
+        let stepped = machine::step_accepted(s, st);
+        let sent = stepped.sent;
+        place = put_sends(out, place, sent, stepped.sends);
+        let next = stepped.next;
         st = next;
         t += 1;
     }
@@ -60,45 +62,34 @@ fn put_margin(out: &mut [u8], at: usize, deadline: u32, bound: u32) -> usize
     }
 }
 
-// A test as a number, 1 where it passes.
-fn bit(b: bool) -> u32
-    ensures { λ r. ⌜ r ≡ bit b ⌝ }
-{
-    if b { 1 } else { 0 }
-}
-
 // The line of both verdicts: basic, tightened, rounds.
-pub fn put_verdict(out: &mut [u8], at: usize, v: Verdict) -> usize
+fn put_verdict(out: &mut [u8], at: usize, v: Verdict) -> usize
     ensures { λ r. ⌜ Put (now (out .entry)) at (verdictLine v) (now (out .exit)) r ⌝ }
 {
     let numbers = [bit(v.basic), bit(v.tightened), v.rounds];
     text::put_line(out, at, b"verdict", &numbers)
 }
 
-// Input of so many bytes is not read.
-pub fn is_long(n: usize) -> bool
+// Whether input of n bytes is too long to be read.
+pub fn is_too_long(n: usize) -> bool
     ensures { λ r. ⌜ r ≡ ltb 16384 n ⌝ }
 {
-    16384 < n
+    MOST_INPUT < n
 }
 
-// The line of its refusal, at the buffer's start.
-pub fn put_long(out: &mut [u8]) -> usize
+// The line of refusal 10 for input that is too long, at the buffer's start.
+pub fn put_too_long(out: &mut [u8]) -> usize
     ensures { λ r. ⌜ Put (now (out .entry)) 0 (refusedLine (faultAt NoRoom 0)) (now (out .exit)) r ⌝ }
 {
-    let fault = Fault {
-        refusal: Refusal::NoRoom,
-        line: 0,
-    };
-    put_refused(out, 0, fault)
+    put_refused(out, 0, Fault::of(Refusal::NoRoom))
 }
 
 // The line of flow k: C, both bounds, deadline and margin.
-pub fn put_bound(out: &mut [u8], at: usize, k: u16, b: Bounds) -> usize
+fn put_bound(out: &mut [u8], at: usize, k: u16, b: Bounds) -> usize
     ensures { λ r. ⌜ Put (now (out .entry)) at (boundText k b) (now (out .exit)) r ⌝ }
 {
-    let d = b.deadline;
-    let deadline = d.0 as u32;
+    let span = b.deadline;
+    let deadline = span.0 as u32;
     let numbers = [k as u32, b.work, b.basic, b.tightened, deadline];
     let first = text::put_word(out, at, b"bound");
     let second = text::put_fields(out, first, &numbers);
@@ -106,16 +97,16 @@ pub fn put_bound(out: &mut [u8], at: usize, k: u16, b: Bounds) -> usize
     text::put_byte(out, third, 10)
 }
 
-// The `bound` lines of a set's flows, from the bounds of all.
-fn put_bounds(out: &mut [u8], at: usize, s: FlowSet, j: AllBounds) -> usize
-    requires { ⌜ AllBoundsOf (used s) j ⌝ }
+// The `bound` lines of a set's flows, from the bounds of all flows.
+fn put_bounds(out: &mut [u8], at: usize, s: FlowSet, all: AllBounds) -> usize
+    requires { ⌜ AllBoundsOf (used s) all ⌝ }
     ensures { λ r. ⌜ Put (now (out .entry)) at (boundLines (used s) (s .count)) (now (out .exit)) r ⌝ }
 {
     let n = s.count;
     let mut place = at;
     let mut k: u16 = 0;
     while k < n {
-        let b = delay::bounds_of(s, k, j);
+        let b = delay::bounds_of(s, k, all);
         place = put_bound(out, place, k, b);
         k += 1;
     }
@@ -127,9 +118,9 @@ pub fn put_plan(out: &mut [u8], s: FlowSet) -> usize
     requires { ⌜ recordFault (used s) ≡ noFault ⌝ }
     ensures { λ r. ⌜ Put (now (out .entry)) 0 (planOf (used s)) (now (out .exit)) r × (length (planOf (used s)) ≤ 18432) ⌝ }
 {
-    let j = delay::all_bounds(s);
-    let v = delay::verdict_of(s, j);
+    let all = delay::all_bounds(s);
+    let v = delay::verdict_of(s, all);
     let first = put_verdict(out, 0, v);
-    let second = put_bounds(out, first, s, j);
+    let second = put_bounds(out, first, s, all);
     put_run(out, second, s)
 }

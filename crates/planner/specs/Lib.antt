@@ -1,9 +1,10 @@
-pub mod Early
+pub mod BeforeStep
+pub mod Refuses
 pub mod SlotBytes
 pub mod StateBytes
 pub mod StateCopy
-pub mod Steps
-pub mod AnswerNumbers
-pub mod Cut
-pub mod Stepping
-pub mod Slotting
+pub mod StepWritten
+pub mod AnswersInNumbers
+pub mod FlowBeyondLast
+pub mod AfterStep
+pub mod SlotIsStep

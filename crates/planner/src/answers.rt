@@ -1,22 +1,22 @@
-// Answers as they are told. To C: a verdict's, a flow's bounds' and a slot's numbers, what is refused before a slot is made, and a step's
-// answer written into what was lent, the next state and the slot's lines. By the program: the `verdict` and `bound` lines, and the refusal of
-// input that is longer than any set's text, which is not read.
-// What is said of a set that was handed over as text: the reader's refusal, if there is one, before anything else.
-ghost use lib.ListN.{length};
+// What C is answered for a set that was handed over as text: the reader's refusal, if there is one, before anything else is tested.
 ghost use mathlib.Core.Path.{_≡_};
 ghost use mathlib.Core.Bool.{cond};
 ghost use lib.Dec.{ltb};
-ghost use Rattle.model.specs.Sums.{bit};
 ghost use Rattle.document.specs.Delay.{refusedBounds, refusedVerdict};
-ghost use Rattle.document.specs.ForC.{boundsOfReading, verdictOfReading};
+ghost use Rattle.document.specs.ForC.{boundsNumbers, boundsOfReading, slotNumbers, verdictNumbers, verdictOfReading};
 use model::Bounds;
+use model::BoundsAnswer;
 use model::Fault;
 use model::Reading;
+use model::SlotAnswer;
 use model::Span;
 use model::Verdict;
+use model::VerdictAnswer;
+use model::Written;
+use model::bit;
 
-// A flow number as the delay tests take it: 16 bits. There is no flow of any that is cut off.
-pub fn flow_number(flow: u32, count: u16) -> u16
+// A flow's number in 16 bits, as the delay tests take it; the count where the number is not below the count, since neither is a flow's.
+fn flow_number(flow: u32, count: u16) -> u16
     ensures { λ r. ⌜ r ≡ cond (ltb flow count) flow count ⌝ }
 {
     if flow < count as u32 {
@@ -26,13 +26,7 @@ pub fn flow_number(flow: u32, count: u16) -> u16
     }
 }
 
-// A test as a number, 1 where it passes.
-pub fn bit(b: bool) -> u32
-    ensures { λ r. ⌜ r ≡ bit b ⌝ }
-{
-    if b { 1 } else { 0 }
-}
-
+// A refusal, neither test passed, no rounds.
 fn refused_verdict(fault: Fault) -> Verdict
     ensures { λ r. ⌜ r ≡ refusedVerdict fault ⌝ }
 {
@@ -44,19 +38,19 @@ fn refused_verdict(fault: Fault) -> Verdict
     }
 }
 
-pub fn verdict(reading: Reading) -> Verdict
+// Both verdicts of the set that was read, or the reader's refusal.
+pub fn verdict_of_reading(reading: Reading) -> Verdict
     ensures { λ r. ⌜ r ≡ verdictOfReading reading ⌝ }
 {
     let fault = reading.fault;
-    let refusal = fault.refusal;
-    if refusal.code() == 0 {
-        let set = reading.set;
-        delay::verdict(set)
-    } else {
-        refused_verdict(fault)
+    if fault.refuses() {
+        return refused_verdict(fault);
     }
+    let set = reading.set;
+    delay::verdict(set)
 }
 
+// A refusal, every number 0.
 fn refused_bounds(fault: Fault) -> Bounds
     ensures { λ r. ⌜ r ≡ refusedBounds fault ⌝ }
 {
@@ -70,15 +64,59 @@ fn refused_bounds(fault: Fault) -> Bounds
     }
 }
 
-pub fn bounds(reading: Reading, flow: u32) -> Bounds
+// The bounds of one flow of the set that was read, or the reader's refusal.
+pub fn bounds_of_reading(reading: Reading, flow: u32) -> Bounds
     ensures { λ r. ⌜ r ≡ boundsOfReading reading flow ⌝ }
 {
     let fault = reading.fault;
+    if fault.refuses() {
+        return refused_bounds(fault);
+    }
+    let set = reading.set;
+    delay::bounds(set, flow_number(flow, set.count))
+}
+
+// A verdict as C is answered: the refusal by document 01's number, a test as 1 or 0.
+pub fn verdict_numbers(v: Verdict) -> VerdictAnswer
+    ensures { λ r. ⌜ r ≡ verdictNumbers v ⌝ }
+{
+    let fault = v.fault;
     let refusal = fault.refusal;
-    if refusal.code() == 0 {
-        let set = reading.set;
-        delay::bounds(set, flow_number(flow, set.count))
-    } else {
-        refused_bounds(fault)
+    VerdictAnswer {
+        refusal: refusal.code() as u32,
+        line: fault.line,
+        basic: bit(v.basic),
+        tightened: bit(v.tightened),
+        rounds: v.rounds,
+    }
+}
+
+// A flow's bounds as C is answered: the refusal by document 01's number.
+pub fn bounds_numbers(b: Bounds) -> BoundsAnswer
+    ensures { λ r. ⌜ r ≡ boundsNumbers b ⌝ }
+{
+    let fault = b.fault;
+    let refusal = fault.refusal;
+    BoundsAnswer {
+        refusal: refusal.code() as u32,
+        line: fault.line,
+        work: b.work,
+        basic: b.basic,
+        tightened: b.tightened,
+        deadline: b.deadline.0 as u32,
+        margin: b.margin,
+    }
+}
+
+// The length of what was written as C is answered: the refusal by document 01's number.
+pub fn slot_numbers(w: Written) -> SlotAnswer
+    ensures { λ r. ⌜ r ≡ slotNumbers w ⌝ }
+{
+    let fault = w.fault;
+    let refusal = fault.refusal;
+    SlotAnswer {
+        refusal: refusal.code() as u32,
+        line: fault.line,
+        length: w.length,
     }
 }

@@ -9,6 +9,9 @@ mod answers;
 mod slots;
 mod state_bytes;
 
+pub use answers::bounds_numbers;
+pub use answers::slot_numbers;
+pub use answers::verdict_numbers;
 use model::BoundsAnswer;
 use model::SlotAnswer;
 use model::VerdictAnswer;
@@ -19,16 +22,8 @@ pub extern "C" fn rembasuk_verdict(text: &[u8]) -> VerdictAnswer
     ensures { λ r. ⌜ r ≡ verdictForC (now (text .entry)) ⌝ }
 {
     let reading = text::read(text);
-    let v = answers::verdict(reading);
-    let fault = v.fault;
-    let refusal = fault.refusal;
-    VerdictAnswer {
-        refusal: refusal.code() as u32,
-        line: fault.line,
-        basic: answers::bit(v.basic),
-        tightened: answers::bit(v.tightened),
-        rounds: v.rounds,
-    }
+    let verdict = answers::verdict_of_reading(reading);
+    verdict_numbers(verdict)
 }
 
 // The bounds of one flow of the set in `text`: the text's refusals, then 13.
@@ -37,18 +32,8 @@ pub extern "C" fn rembasuk_bounds(text: &[u8], flow: u32) -> BoundsAnswer
     ensures { λ r. ⌜ r ≡ boundsForC (now (text .entry)) flow ⌝ }
 {
     let reading = text::read(text);
-    let b = answers::bounds(reading, flow);
-    let fault = b.fault;
-    let refusal = fault.refusal;
-    BoundsAnswer {
-        refusal: refusal.code() as u32,
-        line: fault.line,
-        work: b.work,
-        basic: b.basic,
-        tightened: b.tightened,
-        deadline: b.deadline.0 as u32,
-        margin: b.margin,
-    }
+    let bounds = answers::bounds_of_reading(reading, flow);
+    bounds_numbers(bounds)
 }
 
 // One slot of the set in `text`: the next state over the 68 bytes, the slot's `send` lines at the start of `lines`.
@@ -60,12 +45,6 @@ pub extern "C" fn rembasuk_slot(text: &[u8], state: &mut [u8], lines: &mut [u8])
     ensures { λ r. ⌜ now (lines .exit) ≡ slotBuffer (readText (now (text .entry))) (now (state .entry)) (now (lines .entry)) ⌝ }
 {
     let reading = text::read(text);
-    let w = slots::slot(reading, state, lines);
-    let fault = w.fault;
-    let refusal = fault.refusal;
-    SlotAnswer {
-        refusal: refusal.code() as u32,
-        line: fault.line,
-        length: w.length,
-    }
+    let written = slots::slot_of_reading(reading, state, lines);
+    slot_numbers(written)
 }

@@ -1,5 +1,3 @@
-// Functions over plain numbers: bounds that numbers have by their width, differences that end at 0, the smaller and the larger of two;
-// q and r of two flows; a deadline less a bound; the four bytes of a slot.
 // The 68 bytes of a state: the slot in four bytes, lowest first, then a count byte for each flow.
 ghost use mathlib.Core.Path.{_≡_};
 ghost use Prim.Native.Nat.{_%_, _*_, _+_, _-_, _/_, _<_};
@@ -12,10 +10,10 @@ use model::Flow;
 use model::Slot;
 use model::State;
 
-pub type SlotBytes = [u8; 4];
+type SlotBytes = [u8; 4];
 
-// A slot in four bytes, lowest first.
-pub fn slot_bytes(t: u32) -> SlotBytes
+// The four bytes of a slot, lowest first.
+fn slot_bytes(t: u32) -> SlotBytes
     ensures { λ r. ⌜ r ≡ slotBytes t ⌝ }
 {
     let lowest = (t % 256) as u8;
@@ -28,6 +26,7 @@ pub fn slot_bytes(t: u32) -> SlotBytes
 // How many bytes a state has.
 pub const LENGTH: usize = 68;
 
+// A byte with the bound that it has by its width.
 fn wide(b: u8) -> u32
     ensures { λ r. ⌜ (r ≡ b) × (r < 256) ⌝ }
 {
@@ -69,6 +68,7 @@ fn read_state(b: &[u8]) -> State
     }
 }
 
+// A slot written over the first four bytes.
 fn put_slot(b: &mut [u8], t: u32)
     requires { ⌜ length (now b) ≡ stateLength ⌝ }
     ensures { λ r. ⌜ now (b .exit) ≡ slotBytes t ++ drop 4 (now (b .entry)) ⌝ }
@@ -80,6 +80,7 @@ fn put_slot(b: &mut [u8], t: u32)
     b[3] = bytes[3];
 }
 
+// The counts written over the bytes after the first four.
 fn put_counts(b: &mut [u8], sent: [u8; Flow::MOST])
     requires { ⌜ length (now b) ≡ stateLength ⌝ }
     ensures { λ r. ⌜ now (b .exit) ≡ take 4 (now (b .entry)) ++ sent ⌝ }
@@ -91,7 +92,7 @@ fn put_counts(b: &mut [u8], sent: [u8; Flow::MOST])
     }
 }
 
-// The 68 bytes of a state, written over those lent.
+// The 68 bytes of a state, written over the 68 lent bytes.
 fn write_state(b: &mut [u8], st: State)
     requires { ⌜ length (now b) ≡ stateLength ⌝ }
     ensures { λ r. ⌜ now (b .exit) ≡ stateBytes st ⌝ }
@@ -101,7 +102,7 @@ fn write_state(b: &mut [u8], st: State)
     put_slot(b, st.slot.0);
 }
 
-// The state that bytes stand for; the fresh one where they are not 68.
+// The state that the bytes stand for; the fresh state where there are not 68 bytes.
 pub fn state_of(b: &[u8]) -> State
     ensures { λ r. ⌜ r ≡ stateIn (now (b .entry)) ⌝ }
 {
@@ -111,7 +112,7 @@ pub fn state_of(b: &[u8]) -> State
     State::fresh()
 }
 
-// A state written over the bytes lent, which stay where they are not 68.
+// A state written over the lent bytes; the bytes stay as they were where there are not 68.
 pub fn put_state(b: &mut [u8], st: State)
     ensures { λ r. ⌜ now (b .exit) ≡ withState st (now (b .entry)) ⌝ }
 {

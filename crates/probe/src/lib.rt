@@ -1,15 +1,15 @@
-// What C cannot reach, exported for the tests alone: every function over a record and the plan's text, with the refusal as document
-// 01's number.
+// What C cannot reach, exported for the comparison alone: every function over a record, and the plan's text. The refusal is document 01's
+// number, and a test is 1 or 0.
 ghost use lib.ListN.{length};
 ghost use mathlib.Core.Path.{_≡_};
-ghost use Rattle.probe.specs.Told.{told, toldBounds, toldRan, toldReading, toldStepped, toldVerdict, toldWritten};
-ghost use Rattle.model.specs.Sums.{bit};
-ghost use Rattle.document.specs.Reader.{readText, recordFault, writeAnswer, writeInto};
 ghost use Rattle.model.specs.Sets.{used};
+ghost use Rattle.document.specs.Reader.{readText, recordFault, writeAnswer, writeInto};
 ghost use Rattle.document.specs.Delay.{boundsOf, verdictOf};
 ghost use Rattle.document.specs.Machine.{runOf, stepOf};
 ghost use Rattle.document.specs.Program.{planAnswer, planInto};
-use model::Bounds;
+ghost use Rattle.document.specs.ForC.{boundsNumbers, slotNumbers, verdictNumbers};
+ghost use Rattle.probe.specs.RecordNumbers.{faultNumbers, ranNumbers, readingNumbers, steppedNumbers};
+use model::BoundsAnswer;
 use model::ChannelMap;
 use model::Delivery;
 use model::Fault;
@@ -18,10 +18,10 @@ use model::FlowSet;
 use model::Ran;
 use model::Reading;
 use model::Send;
+use model::SlotAnswer;
 use model::State;
 use model::Stepped;
-use model::Verdict;
-use model::Written;
+use model::VerdictAnswer;
 
 #[repr(C)]
 pub struct ProbeFault {
@@ -33,30 +33,6 @@ pub struct ProbeFault {
 pub struct ProbeReading {
     pub fault: ProbeFault,
     pub set: FlowSet,
-}
-
-#[repr(C)]
-pub struct ProbeWritten {
-    pub fault: ProbeFault,
-    pub length: usize,
-}
-
-#[repr(C)]
-pub struct ProbeVerdict {
-    pub fault: ProbeFault,
-    pub basic: u32,
-    pub tightened: u32,
-    pub rounds: u32,
-}
-
-#[repr(C)]
-pub struct ProbeBounds {
-    pub fault: ProbeFault,
-    pub work: u32,
-    pub basic: u32,
-    pub tightened: u32,
-    pub deadline: u32,
-    pub margin: i32,
 }
 
 #[repr(C)]
@@ -80,36 +56,31 @@ pub struct ProbeRan {
 }
 
 // A fault with document 01's number.
-fn told(f: Fault) -> ProbeFault
-    ensures { λ r. ⌜ r ≡ told f ⌝ }
+fn fault_numbers(fault: Fault) -> ProbeFault
+    ensures { λ r. ⌜ r ≡ faultNumbers fault ⌝ }
 {
-    let why = f.refusal;
+    let refusal = fault.refusal;
     ProbeFault {
-        refusal: why.code() as u32,
-        line: f.line,
+        refusal: refusal.code() as u32,
+        line: fault.line,
     }
-}
-
-fn one_if(b: bool) -> u32
-    ensures { λ r. ⌜ r ≡ bit b ⌝ }
-{
-    if b { 1 } else { 0 }
 }
 
 // The record check.
 #[no_mangle]
 pub extern "C" fn probe_record_fault(s: FlowSet) -> ProbeFault
-    ensures { λ r. ⌜ r ≡ told (recordFault (used s)) ⌝ }
+    ensures { λ r. ⌜ r ≡ faultNumbers (recordFault (used s)) ⌝ }
 {
-    told(rules::record_fault(s))
+    fault_numbers(rules::record_fault(s))
 }
 
-fn told_reading(a: Reading) -> ProbeReading
-    ensures { λ p. ⌜ p ≡ toldReading a ⌝ }
+// A reading with its fault in numbers.
+fn reading_numbers(reading: Reading) -> ProbeReading
+    ensures { λ r. ⌜ r ≡ readingNumbers reading ⌝ }
 {
-    let set = a.set;
+    let set = reading.set;
     ProbeReading {
-        fault: told(a.fault),
+        fault: fault_numbers(reading.fault),
         set,
     }
 }
@@ -117,97 +88,65 @@ fn told_reading(a: Reading) -> ProbeReading
 // The reader.
 #[no_mangle]
 pub extern "C" fn probe_read(text: &[u8]) -> ProbeReading
-    ensures { λ r. ⌜ r ≡ toldReading (readText (now (text .entry))) ⌝ }
+    ensures { λ r. ⌜ r ≡ readingNumbers (readText (now (text .entry))) ⌝ }
 {
-    told_reading(text::read(text))
-}
-
-fn told_written(a: Written) -> ProbeWritten
-    ensures { λ p. ⌜ p ≡ toldWritten a ⌝ }
-{
-    ProbeWritten {
-        fault: told(a.fault),
-        length: a.length,
-    }
+    reading_numbers(text::read(text))
 }
 
 // The writer.
 #[no_mangle]
-pub extern "C" fn probe_write(s: FlowSet, out: &mut [u8]) -> ProbeWritten
+pub extern "C" fn probe_write(s: FlowSet, out: &mut [u8]) -> SlotAnswer
     ensures { λ r. ⌜
-        (r ≡ toldWritten (writeAnswer (used s) (length (now (out .entry)))))
+        (r ≡ slotNumbers (writeAnswer (used s) (length (now (out .entry)))))
         × (now (out .exit) ≡ writeInto (used s) (now (out .entry)))
         ⌝ }
 {
-    told_written(text::write(s, out))
+    planner::slot_numbers(text::write(s, out))
 }
 
 // The plan program's text.
 #[no_mangle]
-pub extern "C" fn probe_plan(input: &[u8], out: &mut [u8]) -> ProbeWritten
+pub extern "C" fn probe_plan(input: &[u8], out: &mut [u8]) -> SlotAnswer
     ensures { λ r. ⌜
-        (r ≡ toldWritten (planAnswer (now (input .entry)) (length (now (out .entry)))))
+        (r ≡ slotNumbers (planAnswer (now (input .entry)) (length (now (out .entry)))))
         × (now (out .exit) ≡ planInto (now (input .entry)) (now (out .entry)))
         ⌝ }
 {
-    told_written(plan_text::plan(input, out))
-}
-
-fn told_verdict(a: Verdict) -> ProbeVerdict
-    ensures { λ p. ⌜ p ≡ toldVerdict a ⌝ }
-{
-    ProbeVerdict {
-        fault: told(a.fault),
-        basic: one_if(a.basic),
-        tightened: one_if(a.tightened),
-        rounds: a.rounds,
-    }
+    planner::slot_numbers(plan_text::plan(input, out))
 }
 
 // Both verdicts.
 #[no_mangle]
-pub extern "C" fn probe_verdict(s: FlowSet) -> ProbeVerdict
-    ensures { λ r. ⌜ r ≡ toldVerdict (verdictOf (used s)) ⌝ }
+pub extern "C" fn probe_verdict(s: FlowSet) -> VerdictAnswer
+    ensures { λ r. ⌜ r ≡ verdictNumbers (verdictOf (used s)) ⌝ }
 {
-    told_verdict(delay::verdict(s))
-}
-
-fn told_bounds(a: Bounds) -> ProbeBounds
-    ensures { λ p. ⌜ p ≡ toldBounds a ⌝ }
-{
-    ProbeBounds {
-        fault: told(a.fault),
-        work: a.work,
-        basic: a.basic,
-        tightened: a.tightened,
-        deadline: a.deadline.0 as u32,
-        margin: a.margin,
-    }
+    planner::verdict_numbers(delay::verdict(s))
 }
 
 // One flow's bounds.
 #[no_mangle]
-pub extern "C" fn probe_bounds(s: FlowSet, flow: u16) -> ProbeBounds
-    ensures { λ r. ⌜ r ≡ toldBounds (boundsOf (used s) flow) ⌝ }
+pub extern "C" fn probe_bounds(s: FlowSet, flow: u16) -> BoundsAnswer
+    ensures { λ r. ⌜ r ≡ boundsNumbers (boundsOf (used s) flow) ⌝ }
 {
-    told_bounds(delay::bounds(s, flow))
+    planner::bounds_numbers(delay::bounds(s, flow))
 }
 
-fn told_stepped(a: Stepped) -> ProbeStepped
-    ensures { λ p. ⌜ p ≡ toldStepped a ⌝ }
+// A step's answer with its fault in numbers.
+fn stepped_numbers(stepped: Stepped) -> ProbeStepped
+    ensures { λ r. ⌜ r ≡ steppedNumbers stepped ⌝ }
 {
-    let next = a.next;
-    let sent = a.sent;
-    let delivered = a.delivered;
-    let dropped = a.dropped;
+    let next = stepped.next;
+    let sent = stepped.sent;
+    let delivered = stepped.delivered;
+    let dropped = stepped.dropped;
     ProbeStepped {
-        fault: told(a.fault),
+        fault: fault_numbers(stepped.fault),
         next,
-        sends: a.sends,
+        sends: stepped.sends,
         sent,
-        deliveries: a.deliveries,
+        deliveries: stepped.deliveries,
         delivered,
-        drops: a.drops,
+        drops: stepped.drops,
         dropped,
     }
 }
@@ -215,27 +154,28 @@ fn told_stepped(a: Stepped) -> ProbeStepped
 // One step.
 #[no_mangle]
 pub extern "C" fn probe_step(s: FlowSet, st: State) -> ProbeStepped
-    ensures { λ r. ⌜ r ≡ toldStepped (stepOf (used s) st) ⌝ }
+    ensures { λ r. ⌜ r ≡ steppedNumbers (stepOf (used s) st) ⌝ }
 {
-    told_stepped(machine::step(s, st))
+    stepped_numbers(machine::step(s, st))
 }
 
-fn told_ran(a: Ran) -> ProbeRan
-    ensures { λ p. ⌜ p ≡ toldRan a ⌝ }
+// A run's answer with its fault in numbers.
+fn ran_numbers(ran: Ran) -> ProbeRan
+    ensures { λ r. ⌜ r ≡ ranNumbers ran ⌝ }
 {
-    let last = a.last;
+    let last = ran.last;
     ProbeRan {
-        fault: told(a.fault),
+        fault: fault_numbers(ran.fault),
         last,
-        delivered: a.delivered,
-        dropped: a.dropped,
+        delivered: ran.delivered,
+        dropped: ran.dropped,
     }
 }
 
 // A run from the fresh state.
 #[no_mangle]
 pub extern "C" fn probe_run(s: FlowSet, budget: u32) -> ProbeRan
-    ensures { λ r. ⌜ r ≡ toldRan (runOf (used s) budget) ⌝ }
+    ensures { λ r. ⌜ r ≡ ranNumbers (runOf (used s) budget) ⌝ }
 {
-    told_ran(machine::run(s, budget))
+    ran_numbers(machine::run(s, budget))
 }

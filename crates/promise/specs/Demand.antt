@@ -11,7 +11,6 @@ use native.Mathlib.Omega.{arith}
 use lib.ListN.{length, getD, length-take}
 use borrow.Author.Tests.{leb-true, lt-leb}
 use Rattle.model.specs.declared.kinds.FlowSet.{FlowSet}
-use Rattle.model.specs.declared.kinds.State.{State}
 use Rattle.model.specs.declared.answers.Stepped.{Stepped}
 use Rattle.model.specs.declared.answers.Verdict.{Verdict}
 use Rattle.model.specs.declared.answers.Bounds.{Bounds}
@@ -21,18 +20,20 @@ use Rattle.model.specs.Sums.{allTo}
 use Rattle.model.specs.Sets.{flowAt, used, filterTo}
 use Rattle.document.specs.Reader.{recordFault, readText}
 use Rattle.document.specs.Delay.{deadline, basicBound, valueAt, deadlines, reached, tightBound, admits, verdictIf, verdictOf, boundsFault, boundsIf, boundsOf}
-use Rattle.document.specs.Machine.{droppedAt, stepOf, runOf, runWith}
-use Rattle.laws.specs.Sums.{and-l, and-r}
+use Rattle.document.specs.Machine.{Priority, droppedWith, stepWith, runWith, stepOf, runOf}
+use Rattle.laws.specs.SumLaws.{and-l, and-r}
 use Rattle.laws.specs.Used.{used-count, used-flow, used-map}
 use Rattle.laws.specs.Accepted.{accepted}
 use Rattle.laws.specs.Values.{value-at-deadlines}
 use Rattle.laws.specs.Rounds.{Between, between-deadlines, reached-between, accepted-fits}
-use Rattle.promise.specs.Promise.{report, Apart, Kept, Held, PromiseWith, Promise}
-use Rattle.promise.specs.Run.{stateAt, report-step}
+use Rattle.promise.specs.Promise.{SlotMachine, report, Apart, Kept, Held, Test, PromiseOf, TextPromiseOf, basic, tightened, Promise, TextPromise}
+use Rattle.promise.specs.SlotChoice.{Ordering}
+use Rattle.promise.specs.DeadlineOrder.{deadline-order}
+use Rattle.promise.specs.RunStates.{stateAt, report-step}
 use Rattle.promise.specs.Reports.{drops-eq, dropped-eq, filter-at}
 use Rattle.promise.specs.Flows.{FlowKept, flow-kept}
-use Rattle.promise.specs.Slots.{slot-apart}
-use Rattle.promise.specs.Reading.{text-held, text-passes}
+use Rattle.promise.specs.SlotsApart.{slot-apart}
+use Rattle.promise.specs.TextHeld.{text-held, text-passes}
 
 -- every one passes
 all-each : (p : ℕ → Bool) (n : ℕ) → allTo p n ≡ true → (i : ℕ) → i < n → p i ≡ true
@@ -43,6 +44,35 @@ all-each p (suc n) h i l =
       | yes k ↦ let e : i ≡ n = omega arith in rw e (and-r (allTo p n) (p n) h)
       | no k ↦ all-each p n (and-l (allTo p n) (p n) h) i (omega arith)
     ]
+
+-- Where every flow keeps its bound, no slot drops a packet, and the set keeps the promise: of the machine with any order of priority.
+module _ {first : Priority} (o : Ordering first) where
+  module _ (s : FlowSet) (g : good (recordFault s .refusal) ≡ true) (bound : ℕ → ℕ) (n : ℕ) (h : n ≤ lastSlot)
+      (f : (k : ℕ) → k < s .count → FlowKept (stepWith first) s k (bound k) n) where
+    none-dropped : (t : ℕ) → t < n → report (stepWith first) s t .drops ≡ 0
+    none-dropped t l = none (decLe 1 (report (stepWith first) s t .drops))
+      where
+        none : Dec (1 ≤ report (stepWith first) s t .drops) → report (stepWith first) s t .drops ≡ 0
+        none (no x) = omega arith
+        none (yes x) =
+            let e = dropped-eq o s g t 0 (omega arith) x in
+            let y = filter-at (droppedWith first s (stateAt first s t)) (s .count) 0 (omega (arith, drops-eq o s g t (omega arith))) in
+            absurd (f (getD (filterTo (droppedWith first s (stateAt first s t)) (s .count)) 0 0) (y .0) .undropped t 0 l x e)
+
+    pub flows-kept : s .map .0 < 2 ^ mostChannels → ((k : ℕ) → k < s .count → length (flowAt s k .route) ≡ flowAt s k .nodes) → Kept (stepWith first) s bound n
+    flows-kept bits w =
+        record {
+          apart = λ t l. slot-apart o s g bits w t (omega arith);
+          undropped = none-dropped;
+          made = λ k j l. f k l .made j;
+        }
+
+    pub run-undropped : (t : ℕ) → t ≤ n → runWith first s t .dropped ≡ 0
+    unfolding runWith
+    run-undropped zero l = refl
+    run-undropped (suc t) l =
+        let e = ap (λ (r : Stepped). r .drops) (sym (report-step o s t)) ∙ none-dropped t (omega arith) in
+        ap₂ _+_ (run-undropped t (omega arith)) e
 
 -- the verdicts and the bounds of an accepted set, which nothing refuses
 module _ (s : FlowSet) (g : good (recordFault s .refusal) ≡ true) where
@@ -76,47 +106,20 @@ module _ (s : FlowSet) (g : good (recordFault s .refusal) ≡ true) where
   -- Flow by flow, in any accepted set: a flow whose own bound, of either test, is at most its deadline.
   module _ (bits : s .map .0 < 2 ^ mostChannels) where
     between-kept : (v : List ℕ) → Between s v → (k n : ℕ) → k < s .count → n ≤ lastSlot → valueAt s v k ≤ deadline s k
-        → FlowKept s k (valueAt s v k) n
+        → FlowKept stepOf s k (valueAt s v k) n
     between-kept v b k n l h = flow-kept s g v (b .le-deadline) (b .ge-value) k n l bits h
 
-    pub basic-flow : (k n : ℕ) → k < s .count → n ≤ lastSlot → boundsOf s k .basic ≤ deadline s k → FlowKept s k (boundsOf s k .basic) n
+    pub basic-flow : (k n : ℕ) → k < s .count → n ≤ lastSlot → boundsOf s k .basic ≤ deadline s k → FlowKept stepOf s k (boundsOf s k .basic) n
     basic-flow k n l h d =
         let e = value-at-deadlines s k ∙ sym (basic-bound k l) in
         rw e at (between-kept (deadlines s) (between-deadlines s) k n l h (rw e d))
 
     pub tight-flow : (k n : ℕ) → k < s .count → n ≤ lastSlot → boundsOf s k .tightened ≤ deadline s k
-        → FlowKept s k (boundsOf s k .tightened) n
+        → FlowKept stepOf s k (boundsOf s k .tightened) n
     unfolding tightBound
     tight-flow k n l h d =
         let e : valueAt s (reached s .list) k ≡ boundsOf s k .tightened = sym (tight-bound k l) in
         rw e at (between-kept (reached s .list) (reached-between s (accepted-fits s (accepted s g))) k n l h (rw e d))
-
-    -- where every flow keeps its bound, no slot drops a packet, and the set keeps the promise
-    module _ (bound : ℕ → ℕ) (n : ℕ) (h : n ≤ lastSlot) (f : (k : ℕ) → k < s .count → FlowKept s k (bound k) n) where
-      none-dropped : (t : ℕ) → t < n → report stepOf s t .drops ≡ 0
-      none-dropped t l = none (decLe 1 (report stepOf s t .drops))
-        where
-          none : Dec (1 ≤ report stepOf s t .drops) → report stepOf s t .drops ≡ 0
-          none (no x) = omega arith
-          none (yes x) =
-              let e = dropped-eq s g t 0 (omega arith) x in
-              let y = filter-at (droppedAt s (stateAt s t)) (s .count) 0 (omega (arith, drops-eq s g t (omega arith))) in
-              absurd (f (getD (filterTo (droppedAt s (stateAt s t)) (s .count)) 0 0) (y .0) .undropped t 0 l x e)
-
-      flows-kept : ((k : ℕ) → k < s .count → length (flowAt s k .route) ≡ flowAt s k .nodes) → Kept stepOf s bound n
-      flows-kept w =
-          record {
-            apart = λ t l. slot-apart s g bits w t (omega arith);
-            undropped = none-dropped;
-            made = λ k j l. f k l .made j;
-          }
-
-      run-undropped : (t : ℕ) → t ≤ n → runOf s t .dropped ≡ 0
-      unfolding runWith
-      run-undropped zero l = refl
-      run-undropped (suc t) l =
-          let e = ap (λ (r : Stepped). r .drops) (sym (report-step s t)) ∙ none-dropped t (omega arith) in
-          ap₂ _+_ (run-undropped t (omega arith)) e
 
 -- a record as the code holds it has all the nodes of its routes
 used-whole : (s : FlowSet) → Held s → good (recordFault (used s) .refusal) ≡ true
@@ -133,23 +136,24 @@ used-bits s w = rw (used-map s) (w .0)
 -- In every accepted set, admitted or not, no slot uses a node or a channel twice,
 pub apart-always : (s : FlowSet) → Held s → good (recordFault (used s) .refusal) ≡ true
     → (t : ℕ) → t < lastSlot → Apart (used s) (report stepOf (used s) t)
-apart-always s w g = slot-apart (used s) g (used-bits s w) (used-whole s w g)
+apart-always s w g = slot-apart deadline-order (used s) g (used-bits s w) (used-whole s w g)
 
 -- and each flow whose own bound, of either test, is at most its deadline keeps it and loses no packet.
 pub safe-flow : (s : FlowSet) → Held s → good (recordFault (used s) .refusal) ≡ true → (k n : ℕ) → k < used s .count → n ≤ lastSlot
-    → (boundsOf (used s) k .basic ≤ deadline (used s) k → FlowKept (used s) k (boundsOf (used s) k .basic) n)
-    × (boundsOf (used s) k .tightened ≤ deadline (used s) k → FlowKept (used s) k (boundsOf (used s) k .tightened) n)
+    → (boundsOf (used s) k .basic ≤ deadline (used s) k → FlowKept stepOf (used s) k (boundsOf (used s) k .basic) n)
+    × (boundsOf (used s) k .tightened ≤ deadline (used s) k → FlowKept stepOf (used s) k (boundsOf (used s) k .tightened) n)
 safe-flow s w g k n l h = (basic-flow (used s) g (used-bits s w) k n l h, tight-flow (used s) g (used-bits s w) k n l h)
 
 -- Demand 3, of the machine in the step's contract, with the verdicts and the bounds of theirs.
 pub promise : Promise stepOf
-promise s w g n h = (
-  λ e. kept (λ k. boundsOf (used s) k .basic) (λ k l. safe-flow s w g k n l h .0 (basic-admits (used s) g e k l)),
-  λ e. kept (λ k. boundsOf (used s) k .tightened) (λ k l. safe-flow s w g k n l h .1 (tight-admits (used s) g e k l)),
+promise = (
+  λ s w g e n h. kept s w g n h (basic .bound (used s)) (λ k l. safe-flow s w g k n l h .0 (basic-admits (used s) g e k l)),
+  λ s w g e n h. kept s w g n h (tightened .bound (used s)) (λ k l. safe-flow s w g k n l h .1 (tight-admits (used s) g e k l)),
 )
   where
-    kept : (bound : ℕ → ℕ) → ((k : ℕ) → k < used s .count → FlowKept (used s) k (bound k) n) → Kept stepOf (used s) bound n
-    kept bound f = flows-kept (used s) g (used-bits s w) bound n h f (used-whole s w g)
+    kept : (s : FlowSet) → Held s → good (recordFault (used s) .refusal) ≡ true → (n : ℕ) → n ≤ lastSlot → (bound : ℕ → ℕ)
+        → ((k : ℕ) → k < used s .count → FlowKept stepOf (used s) k (bound k) n) → Kept stepOf (used s) bound n
+    kept s w g n h bound f = flows-kept deadline-order (used s) g bound n h f (used-bits s w) (used-whole s w g)
 
 -- A run of an admitted set drops nothing: either test admits accepted sets only.
 abbrev pub Admitted : FlowSet → Type 0
@@ -177,18 +181,13 @@ run-keeps s w a n h = go a
     b = rw (used-map s) w
 
     go : Admitted u → runOf u n .dropped ≡ 0
-    go (inl e) = run-undropped u g b (λ k. boundsOf u k .basic) n h (λ k l. basic-flow u g b k n l h (basic-admits u g e k l)) n (le-refl n)
-    go (inr e) = run-undropped u g b (λ k. boundsOf u k .tightened) n h (λ k l. tight-flow u g b k n l h (tight-admits u g e k l)) n (le-refl n)
+    go (inl e) = run-undropped deadline-order u g (λ k. boundsOf u k .basic) n h (λ k l. basic-flow u g b k n l h (basic-admits u g e k l)) n (le-refl n)
+    go (inr e) = run-undropped deadline-order u g (λ k. boundsOf u k .tightened) n h (λ k l. tight-flow u g b k n l h (tight-admits u g e k l)) n (le-refl n)
 
--- The same in the demand's own words: of a text that the reader accepts.
-abbrev pub TextPromise : (basic tightened : FlowSet → ℕ → ℕ) → (FlowSet → State → Stepped) → Type 0
-TextPromise basic tightened M = (text : List ℕ) → good (readText text .fault .refusal) ≡ true → (n : ℕ) → n ≤ lastSlot
-    → (verdictOf (used (readText text .set)) .basic ≡ true → Kept M (used (readText text .set)) (basic (used (readText text .set))) n)
-    × (verdictOf (used (readText text .set)) .tightened ≡ true → Kept M (used (readText text .set)) (tightened (used (readText text .set))) n)
+-- What a test promises of accepted sets it promises of accepted texts: the reader's record is one as the code holds it.
+pub text-promise : (test : Test) (M : SlotMachine) → PromiseOf test M → TextPromiseOf test M
+text-promise test M f text h = f (readText text .set) (text-held text h) (text-passes text h)
 
-pub text-promise : (basic tightened : FlowSet → ℕ → ℕ) (M : FlowSet → State → Stepped) → PromiseWith basic tightened M
-    → TextPromise basic tightened M
-text-promise basic tightened M f text h = f (readText text .set) (text-held text h) (text-passes text h)
-
-pub demand-3 : TextPromise (λ s k. boundsOf s k .basic) (λ s k. boundsOf s k .tightened) stepOf
-demand-3 = text-promise (λ s k. boundsOf s k .basic) (λ s k. boundsOf s k .tightened) stepOf promise
+-- Demand 3 in its own words: of a text that the reader accepts.
+pub demand-3 : TextPromise stepOf
+demand-3 = (text-promise basic stepOf (promise .0), text-promise tightened stepOf (promise .1))

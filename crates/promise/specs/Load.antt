@@ -16,38 +16,38 @@ use native.Mathlib.Decide.{decLe}
 use native.Mathlib.Omega.{arith}
 use lib.Dec.{leb}
 use borrow.Author.Tests.{leb-true}
-use Rattle.laws.specs.Sums.{count, count-in, count-none, bits-le, count-split, and-l, and-r}
+use Rattle.laws.specs.SumLaws.{count, count-in, count-none, bits-le, count-split, and-l, and-r}
 
 -- the release of a flow's latest packet at slot t, for t not before its start a
-abbrev pub release : ℕ → ℕ → ℕ → ℕ
-release a T t = a + (t - a) / T * T
+abbrev pub latestRelease : ℕ → ℕ → ℕ → ℕ
+latestRelease a T t = a + (t - a) / T * T
 
 -- it is not later than t
-pub release-le : (a T t : ℕ) → a ≤ t → release a T t ≤ t
-release-le a T t h = omega (arith, div-mul-le-self (t - a) T)
+pub latest-le : (a T t : ℕ) → a ≤ t → latestRelease a T t ≤ t
+latest-le a T t h = omega (arith, div-mul-le-self (t - a) T)
 
 -- and less than a period before t
-pub release-lt : (a T t : ℕ) → 0 < T → t < release a T t + T
-release-lt a T t h = omega (arith, lt-div-mul-add {a = t - a} h)
+pub latest-lt : (a T t : ℕ) → 0 < T → t < latestRelease a T t + T
+latest-lt a T t h = omega (arith, lt-div-mul-add {a = t - a} h)
 
 -- in the T slots from the release of packet j on, that release is the latest
-pub release-eq : (a T j t : ℕ) → a + j * T ≤ t → t < a + j * T + T → release a T t ≡ a + j * T
-release-eq a T j t h k = rw (div-eq-of-lt-le {k = j} T {m = t - a} (omega arith) (omega arith))
+pub latest-eq : (a T j t : ℕ) → a + j * T ≤ t → t < a + j * T + T → latestRelease a T t ≡ a + j * T
+latest-eq a T j t h k = rw (div-eq-of-lt-le {k = j} T {m = t - a} (omega arith) (omega arith))
 
 -- a flow's share of a window of x slots, for M marked transmissions a packet that all come within v: M for each whole period; of the rest
 -- at most M, and at most the slots less the D − v before a deadline, which stay free
-unfoldable pub share : ℕ → ℕ → ℕ → ℕ → ℕ → ℕ
-share x T D v M = x / T * M + min M (x % T - (D - v))
+unfoldable pub loadShare : ℕ → ℕ → ℕ → ℕ → ℕ → ℕ
+loadShare x T D v M = x / T * M + min M (x % T - (D - v))
 
 -- A flow's marked slots: at most M in the period of each packet, and only within v of a release.
-pub record Marked (a T D v M : ℕ) (s : ℕ → Bool) : Type 0 where
+pub record MarkedSlots (a T D v M : ℕ) (s : ℕ → Bool) : Type 0 where
   pub period : 0 < T
   pub limit : v ≤ D
   pub deadline : D ≤ T
   pub few : (j : ℕ) → count s (a + j * T) T ≤ M
-  pub early : (t : ℕ) → s t ≡ true → (a ≤ t) × (t < release a T t + v)
+  pub early : (t : ℕ) → s t ≡ true → (a ≤ t) × (t < latestRelease a T t + v)
 
-module _ {a T D v M : ℕ} {s : ℕ → Bool} (f : Marked a T D v M s) where
+module _ {a T D v M : ℕ} {s : ℕ → Bool} (f : MarkedSlots a T D v M s) where
   -- at most T slots that end v after the release of packet j hold marks of packet j alone
   end-le : (j r n : ℕ) → r + n ≡ a + j * T + v → n ≤ T → count s r n ≤ M
   end-le j r n e l = omega (arith, f .few j, count-in s s r n (a + j * T) T (λ t k h i. (from t k i, omega arith, i)))
@@ -55,7 +55,7 @@ module _ {a T D v M : ℕ} {s : ℕ → Bool} (f : Marked a T D v M s) where
       from : (t : ℕ) → r ≤ t → s t ≡ true → a + j * T ≤ t
       from t k i =
           let w = f .early t i in
-          let x = release-le a T t (w .0) in
+          let x = latest-le a T t (w .0) in
           elim (decLe j ((t - a) / T)) [
             | yes h ↦ omega (arith, mul-le-mul-right T h)
             | no h ↦
@@ -83,8 +83,8 @@ module _ {a T D v M : ℕ} {s : ℕ → Bool} (f : Marked a T D v M s) where
 
   -- slots that end with packet j, whose deadline is in the first x slots of the window
   ending-le : (j r h x : ℕ) (p : ℕ → Bool) → a + j * T + D ≤ r + x
-      → ((t : ℕ) → r ≤ t → p t ≡ true → (t < a + j * T + v) × (s t ≡ true)) → count p r h ≤ share x T D v M
-  unfolding share
+      → ((t : ℕ) → r ≤ t → p t ≡ true → (t < a + j * T + v) × (s t ≡ true)) → count p r h ≤ loadShare x T D v M
+  unfolding loadShare
   ending-le j r h x p d k =
       let n : ℕ = a + j * T + v - r in
       let u : ℕ = a + j * T + v - n in
@@ -95,7 +95,7 @@ module _ {a T D v M : ℕ} {s : ℕ → Bool} (f : Marked a T D v M s) where
       )
 
   -- the marked slots of a window whose packets have their deadline in the first x slots of the window
-  pub load-le : (r h x : ℕ) → count (λ t. s t && leb (release a T t + D) (r + x)) r h ≤ share x T D v M
+  pub load-le : (r h x : ℕ) → count (λ t. s t && leb (latestRelease a T t + D) (r + x)) r h ≤ loadShare x T D v M
   load-le r h x =
       elim (decLe (a + D) (r + x)) [
         | yes k ↦ ending-le ((r + x - (a + D)) / T) r h x due (omega (arith, div-mul-le-self (r + x - (a + D)) T)) ends
@@ -103,9 +103,9 @@ module _ {a T D v M : ℕ} {s : ℕ → Bool} (f : Marked a T D v M s) where
       ]
     where
       due : ℕ → Bool
-      due t = s t && leb (release a T t + D) (r + x)
+      due t = s t && leb (latestRelease a T t + D) (r + x)
 
-      by : (t : ℕ) → due t ≡ true → release a T t + D ≤ r + x
+      by : (t : ℕ) → due t ≡ true → latestRelease a T t + D ≤ r + x
       by t i = leb-true _ _ (and-r (s t) _ i)
 
       -- no packet is later than the last with its deadline there

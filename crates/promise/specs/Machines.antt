@@ -1,4 +1,4 @@
--- Machines that document 01 excludes, each a step like its own.
+-- Machines that document 01 excludes, each its own machine with one thing changed: what is placed, or what is reported.
 use mathlib.Core.Bool.{true, false, _&&_, cond}
 use mathlib.Core.List.{List, [], map}
 use mathlib.Core.Path.{_≡_, refl}

@@ -11,10 +11,10 @@ use Rattle.model.specs.Sums.{sumTo, anyTo, allTo}
 use Rattle.model.specs.Sets.{used, anyOf, meet, listTo}
 use Rattle.document.specs.Text.{same, lines, ended, fields, allDigits, valueFrom, isNumber, allNumbers, valuesOf, wellFormed, numbersOf}
 use Rattle.document.specs.Reader.{twice, flowFault, flowsFault, recordFault, flowOf, withFlow, firstLineFault, flowLineFault, readFlows, setOf, readLines, readText}
-use Rattle.document.specs.Delay.{conflictWork, share, overOthers, boundWith, basicBound, valueAt, deadlines, lowered, roundTo, roundsIn, reached, tightBound, admits, verdictOf, boundsOf}
+use Rattle.document.specs.Delay.{conflictWork, share, overOthers, boundWith, basicBound, valueAt, deadlines, lowered, roundTo, roundsIn, reached, tightBound, admits, verdictOf}
 use Rattle.document.specs.Machine.{stepOf}
 use Rattle.document.specs.Table.{bytes}
-use Rattle.promise.specs.Promise.{Kept}
+use Rattle.promise.specs.Promise.{Kept, basic, tightened}
 use Rattle.promise.specs.Demand.{demand-3}
 use native.Mathlib.Nat.{le-refl}
 
@@ -23,7 +23,7 @@ abbrev pub setFrom : string.String → FlowSet
 setFrom x = used (readText (bytes x) .set)
 
 -- the reader accepts the text, and these are the verdicts of the two tests
-pub record Judged (x : string.String) (basic tightened : Bool) : Type 0 where
+pub record Verdicts (x : string.String) (basic tightened : Bool) : Type 0 where
   pub read : good (readText (bytes x) .fault .refusal) ≡ true
   pub by-basic : verdictOf (setFrom x) .basic ≡ basic
   pub by-tightened : verdictOf (setFrom x) .tightened ≡ tightened
@@ -50,12 +50,12 @@ abbrev pub tight : string.String
 tight = "set\t1\nflow\t10\t2\t0\t1\t1\t2\nflow\t10\t10\t0\t1\t3\t4\t5\t6\n"
 
 pub record Premises : Type 0 where
-  pub of-p1 : Judged p1 true true
-  pub of-p5 : Judged p5 true true
-  pub of-p7 : Judged p7 true true
-  pub of-p8 : Judged p8 true true
-  pub of-ties : Judged ties true true
-  pub of-tight : Judged tight false true
+  pub of-p1 : Verdicts p1 true true
+  pub of-p5 : Verdicts p5 true true
+  pub of-p7 : Verdicts p7 true true
+  pub of-p8 : Verdicts p8 true true
+  pub of-ties : Verdicts ties true true
+  pub of-tight : Verdicts tight false true
 
 pub premises : Premises
 unfolding bytes same lines ended fields allDigits valueFrom isNumber allNumbers valuesOf wellFormed numbersOf twice flowFault flowsFault recordFault flowOf withFlow firstLineFault flowLineFault readFlows setOf readLines readText conflictWork share overOthers boundWith basicBound valueAt deadlines lowered roundTo roundsIn reached tightBound admits verdictOf sumTo anyTo allTo used anyOf meet listTo ones onesIn
@@ -72,11 +72,13 @@ premises =
 -- a set that both tests admit keeps both bounds to the last slot there is
 abbrev pub KeptAlways : string.String → Type 0
 KeptAlways x =
-    Kept stepOf (setFrom x) (λ k. boundsOf (setFrom x) k .basic) lastSlot
-    × Kept stepOf (setFrom x) (λ k. boundsOf (setFrom x) k .tightened) lastSlot
+    Kept stepOf (setFrom x) (basic .bound (setFrom x)) lastSlot × Kept stepOf (setFrom x) (tightened .bound (setFrom x)) lastSlot
 
-kept-always : (x : string.String) → Judged x true true → KeptAlways x
-kept-always x j = let f = demand-3 (bytes x) (j .read) lastSlot (le-refl lastSlot) in (f .0 (j .by-basic), f .1 (j .by-tightened))
+kept-always : (x : string.String) → Verdicts x true true → KeptAlways x
+kept-always x j = (
+  demand-3 .0 (bytes x) (j .read) (j .by-basic) lastSlot (le-refl lastSlot),
+  demand-3 .1 (bytes x) (j .read) (j .by-tightened) lastSlot (le-refl lastSlot),
+)
 
 pub p1-kept : KeptAlways p1
 p1-kept = kept-always p1 (premises .of-p1)

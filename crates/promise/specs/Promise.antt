@@ -1,16 +1,21 @@
--- Demand 3, of any machine M that answers a set and a state by a step, said of what the steps of its run from the fresh state report.
-use mathlib.Core.{Bool.{true}, Logic.{_≢_}, Path.{_≡_}}
+-- Demand 3: what a test of schedulability promises of a slot machine, for any test and any machine, and document 01's two tests. It is said of
+-- what the steps of the machine's run from the fresh state report.
+use mathlib.Core.{Bool.{Bool, true}, List.{List}, Logic.{_≢_}, Path.{_≡_}}
 use Prim.Native.Nat.{ℕ, zero, suc, _+_, _/_, _%_, _^_, _≤_, _<_}
 use lib.ListN.{length, getD}
 use Rattle.model.specs.declared.{answers.Send.{Send}, answers.Stepped.{Stepped}, kinds.FlowSet.{FlowSet}, kinds.State.{State}}
 use Rattle.model.specs.{Refusals.{good}, Sets.{flowAt, freshState, memb, used}}
-use Rattle.document.specs.Reader.{recordFault}
+use Rattle.document.specs.Reader.{recordFault, readText}
 use Rattle.document.specs.Delay.{ways, workAt, verdictOf, boundsOf}
 use Rattle.model.specs.Limits.{mostChannels, mostNodes, lastSlot}
 use Rattle.document.specs.Machine.{channels, noSend, release}
 
+-- a slot machine answers a set and a state by a step
+abbrev pub SlotMachine : Type 0
+SlotMachine = FlowSet → State → Stepped
+
 -- what slot t reports: the first step is from the fresh state, each later one from the state that the one before gave
-unfoldable pub report : (FlowSet → State → Stepped) → FlowSet → ℕ → Stepped
+unfoldable pub report : SlotMachine → FlowSet → ℕ → Stepped
 report M s zero = M s freshState
 report M s (suc t) = M s (report M s t .next)
 
@@ -34,14 +39,14 @@ pub record Is (s : FlowSet) (t k i : ℕ) (x : Send) : Type 0 where
   pub to : x .to ≡ getD (flowAt s k .route) (i / flowAt s k .tries + 1) 0
 
 -- packet j of flow k has made all its C transmissions in the b slots from its release on, in route order: number i in slot `at i`
-pub record Made (M : FlowSet → State → Stepped) (s : FlowSet) (k j b : ℕ) : Type 0 where
+pub record Made (M : SlotMachine) (s : FlowSet) (k j b : ℕ) : Type 0 where
   pub at : ℕ → ℕ
   pub sent : (i : ℕ) → i < workAt s k → (p : ℕ) × (p < report M s (at i) .sends) × Is s (at i) k i (send (report M s (at i)) p)
   pub within : (i : ℕ) → i < workAt s k → (release (flowAt s k) j ≤ at i) × (at i < release (flowAt s k) j + b)
   pub rising : (i h : ℕ) → i < h → h < workAt s k → at i < at h
 
 -- the first n slots keep the promise, with these bounds
-pub record Kept (M : FlowSet → State → Stepped) (s : FlowSet) (bound : ℕ → ℕ) (n : ℕ) : Type 0 where
+pub record Kept (M : SlotMachine) (s : FlowSet) (bound : ℕ → ℕ) (n : ℕ) : Type 0 where
   pub apart : (t : ℕ) → t < n → Apart s (report M s t)
   pub undropped : (t : ℕ) → t < n → report M s t .drops ≡ 0
   pub made : (k j : ℕ) → k < s .count → release (flowAt s k) j + bound k ≤ n → Made M s k j (bound k)
@@ -50,11 +55,34 @@ pub record Kept (M : FlowSet → State → Stepped) (s : FlowSet) (bound : ℕ �
 abbrev pub Held : FlowSet → Type 0
 Held s = (s .map .0 < 2 ^ mostChannels) × ((k : ℕ) → k < s .count → length (flowAt s k .route) ≡ mostNodes)
 
--- an accepted set that a test admits keeps the test's bounds, or those put in their place
-abbrev pub PromiseWith : (basic tightened : FlowSet → ℕ → ℕ) → (FlowSet → State → Stepped) → Type 0
-PromiseWith basic tightened M = (s : FlowSet) → Held s → good (recordFault (used s) .refusal) ≡ true → (n : ℕ) → n ≤ lastSlot
-    → (verdictOf (used s) .basic ≡ true → Kept M (used s) (basic (used s)) n)
-    × (verdictOf (used s) .tightened ≡ true → Kept M (used s) (tightened (used s)) n)
+-- a test: which sets it admits, and in how many slots from its release on it promises a packet of flow k to be made
+pub record Test : Type 0 where
+  pub admits : FlowSet → Bool
+  pub bound : FlowSet → ℕ → ℕ
 
-abbrev pub Promise : (FlowSet → State → Stepped) → Type 0
-Promise = PromiseWith (λ s k. boundsOf s k .basic) (λ s k. boundsOf s k .tightened)
+-- on machine M, the set keeps the test's bounds if the test admits it, to the last slot that there is
+abbrev pub Keeps : Test → SlotMachine → FlowSet → Type 0
+Keeps test M s = test .admits s ≡ true → (n : ℕ) → n ≤ lastSlot → Kept M s (test .bound s) n
+
+-- The promise of one test, of every accepted set,
+abbrev pub PromiseOf : Test → SlotMachine → Type 0
+PromiseOf test M = (s : FlowSet) → Held s → good (recordFault (used s) .refusal) ≡ true → Keeps test M (used s)
+
+-- and of every text that the reader accepts.
+abbrev pub TextPromiseOf : Test → SlotMachine → Type 0
+TextPromiseOf test M = (text : List ℕ) → good (readText text .fault .refusal) ≡ true → Keeps test M (used (readText text .set))
+
+-- document 01's two tests, with the verdicts and the bounds that the contracts have
+abbrev pub basic : Test
+basic = record { admits = λ s. verdictOf s .basic; bound = λ s k. boundsOf s k .basic }
+
+abbrev pub tightened : Test
+tightened = record { admits = λ s. verdictOf s .tightened; bound = λ s k. boundsOf s k .tightened }
+
+-- Demand 3: both of them keep their promise, of accepted sets
+abbrev pub Promise : SlotMachine → Type 0
+Promise M = PromiseOf basic M × PromiseOf tightened M
+
+-- and of accepted texts.
+abbrev pub TextPromise : SlotMachine → Type 0
+TextPromise M = TextPromiseOf basic M × TextPromiseOf tightened M

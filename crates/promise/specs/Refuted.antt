@@ -10,7 +10,6 @@ use lib.ListN.{getD}
 use lib.Count.{ones, onesIn}
 use Rattle.model.specs.declared.kinds.FlowSet.{FlowSet}
 use Rattle.model.specs.declared.kinds.State.{State}
-use Rattle.model.specs.declared.answers.Stepped.{Stepped}
 use Rattle.model.specs.Limits.{lastSlot}
 use Rattle.model.specs.Refusals.{good}
 use Rattle.model.specs.Sums.{sumTo, anyTo, allTo}
@@ -20,11 +19,12 @@ use Rattle.document.specs.Reader.{twice, flowFault, flowsFault, recordFault, fl
 use Rattle.document.specs.Delay.{ways, period, workAt, conflictWork, share, overOthers, boundWith, basicBound, valueAt, deadlines, lowered, roundTo, roundsIn, reached, tightBound, admits, verdictOf, boundsFault, boundsOf}
 use Rattle.document.specs.Machine.{release, channels, ready, nextCount, insert, ordered, place, channelsTo, radioChannel, sendOf, sendsFrom, deliveriesOf, badState, stepFault, stepOf, countWith, deliveredWith, droppedWith, nextWith, placedWith, stepWith}
 use Rattle.document.specs.Table.{bytes}
-use Rattle.promise.specs.Promise.{report, send, Is, Made, Kept, PromiseWith, Promise}
-use Rattle.promise.specs.Run.{report-slot}
-use Rattle.promise.specs.Reading.{text-passes}
+use Rattle.promise.specs.Promise.{SlotMachine, report, send, Is, Made, Kept, Test, PromiseOf, basic, tightened, Promise}
+use Rattle.promise.specs.DeadlineOrder.{deadline-order}
+use Rattle.promise.specs.RunStates.{report-slot}
+use Rattle.promise.specs.TextHeld.{text-passes}
 use Rattle.promise.specs.Demand.{text-promise}
-use Rattle.promise.specs.Named.{setFrom, Judged, p5, p7, p8, tight, premises}
+use Rattle.promise.specs.Named.{setFrom, Verdicts, p5, p7, p8, tight, premises}
 use Rattle.promise.specs.Machines.{idle, tiring, choosing, reckless, crowded, backward, altering, crossed, strayed, looped, turned, mistried, hurried}
 
 -- what is computed of P5, of P8 and of slots of these machines
@@ -33,6 +33,7 @@ record OfP5 (s : FlowSet) : Type 0 where
   one-way : ways s ≡ 1
   works : (workAt s 0 ≡ 1) × (workAt s 1 ≡ 1)
   bounds : (boundsOf s 0 .basic ≡ 2) × (boundsOf s 1 .basic ≡ 2)
+  tight : boundsOf s 1 .tightened ≡ 2
   releases : (flowAt s 0 .start ≡ 0) × (period s 0 ≡ 10) × (release (flowAt s 1) 0 ≡ 0)
   own : (report stepOf s 0 .sends ≡ 1) × (send (report stepOf s 0) 0 .flow ≡ 0)
   crowd : report crowded s 0 .sends ≡ 2
@@ -64,6 +65,7 @@ computed =
             one-way = refl;
             works = (refl, refl);
             bounds = (refl, refl);
+            tight = refl;
             releases = (refl, refl, refl);
             own = (refl, refl);
             crowd = refl;
@@ -85,7 +87,7 @@ computed =
     }
 
 -- a packet with a transmission is not made where no report of its slots has one of its flow
-unmade : (M : FlowSet → State → Stepped) (s : FlowSet) (k j b : ℕ) → workAt s k ≡ 1
+unmade : (M : SlotMachine) (s : FlowSet) (k j b : ℕ) → workAt s k ≡ 1
     → ((t p : ℕ) → release (flowAt s k) j ≤ t → t < release (flowAt s k) j + b → p < report M s t .sends → send (report M s t) p .flow ≡ k → ⊥)
     → Made M s k j b → ⊥
 unmade M s k j b e f m =
@@ -94,28 +96,22 @@ unmade M s k j b e f m =
     let x = m .sent 0 z in
     f (m .at 0) (x .0) (w .0) (w .1) (x .1) (x .2 .which .1)
 
--- the tests' own bounds
-abbrev pub basics : FlowSet → ℕ → ℕ
-basics s k = boundsOf s k .basic
+-- the same test with bounds one less
+abbrev pub oneLess : Test → Test
+oneLess test = record { admits = test .admits; bound = λ s k. test .bound s k - 1 }
 
-abbrev pub tights : FlowSet → ℕ → ℕ
-tights s k = boundsOf s k .tightened
+-- what the promise of a test would give of P5, which both tests admit, in n slots
+p5-kept : (test : Test) (M : SlotMachine) → PromiseOf test M → test .admits (setFrom p5) ≡ true → (n : ℕ) → n ≤ lastSlot
+    → Kept M (setFrom p5) (test .bound (setFrom p5)) n
+p5-kept test M f = text-promise test M f (bytes p5) (premises .of-p5 .read)
 
--- and bounds one less
-abbrev pub oneLess : (FlowSet → ℕ → ℕ) → FlowSet → ℕ → ℕ
-oneLess bound s k = bound s k - 1
-
--- what the promise would give of a set that the basic test admits, in n slots
-basic-kept : (x : string.String) {b : Bool} → Judged x true b → (basic tightened : FlowSet → ℕ → ℕ) (M : FlowSet → State → Stepped)
-    → PromiseWith basic tightened M → (n : ℕ) → n ≤ lastSlot → Kept M (setFrom x) (basic (setFrom x)) n
-basic-kept x j basic tightened M f n h = text-promise basic tightened M f (bytes x) (j .read) n h .0 (j .by-basic)
-
-p5-kept : (basic tightened : FlowSet → ℕ → ℕ) (M : FlowSet → State → Stepped) → PromiseWith basic tightened M → (n : ℕ) → n ≤ lastSlot
-    → Kept M (setFrom p5) (basic (setFrom p5)) n
-p5-kept = basic-kept p5 (premises .of-p5)
+-- what the promise would give of a set that the basic test admits
+basic-kept : (x : string.String) {b : Bool} → Verdicts x true b → (M : SlotMachine) → Promise M → (n : ℕ) → n ≤ lastSlot
+    → Kept M (setFrom x) (basic .bound (setFrom x)) n
+basic-kept x j M f = text-promise basic M (f .0) (bytes x) (j .read) (j .by-basic)
 
 -- A machine that sends nothing of P5 from some slot on, whatever it did before: the next packet of flow 0 is not sent.
-pub silent-refuted : (M : FlowSet → State → Stepped) (n : ℕ) → n + 12 ≤ lastSlot → ((t : ℕ) → n ≤ t → report M (setFrom p5) t .sends ≡ 0)
+pub silent-refuted : (M : SlotMachine) (n : ℕ) → n + 12 ≤ lastSlot → ((t : ℕ) → n ≤ t → report M (setFrom p5) t .sends ≡ 0)
     → Promise M → ⊥
 silent-refuted M n h z f =
     let c = computed .of-p5 in
@@ -123,8 +119,8 @@ silent-refuted M n h z f =
     let b = c .bounds in
     let j : ℕ = n / 10 + 1 in
     let r : release (flowAt (setFrom p5) 0) j ≡ j * 10 = rw (a .0, a .1) (omega arith) in
-    unmade M (setFrom p5) 0 j (basics (setFrom p5) 0) (c .works .0) (λ t p g l i e. omega (arith, z t (omega arith)))
-    (p5-kept basics tights M f (n + 12) h .made 0 j (omega (arith, c .flows)) (omega arith))
+    unmade M (setFrom p5) 0 j (basic .bound (setFrom p5) 0) (c .works .0) (λ t p g l i e. omega (arith, z t (omega arith)))
+    (basic-kept p5 (premises .of-p5) M f (n + 12) h .made 0 j (omega (arith, c .flows)) (omega arith))
 
 -- The idle machine.
 idle-sends : (s : FlowSet) (t : ℕ) → report idle s t .sends ≡ 0
@@ -150,7 +146,7 @@ module _ (s : FlowSet) (g : good (recordFault s .refusal) ≡ true) (n : ℕ) (l
   unfolding report
   tiring-below zero h = awake freshState h
   tiring-below (suc t) h =
-      rw (tiring-below t (omega arith)) (awake (report stepOf s t .next) (omega (arith, report-slot s g t (omega arith))))
+      rw (tiring-below t (omega arith)) (awake (report stepOf s t .next) (omega (arith, report-slot deadline-order s g t (omega arith))))
 
   -- so slot t ends at t + 1, and none from n on sends
   tiring-ends : (t : ℕ) → (n ≤ t → report (tiring n) s t .sends ≡ 0) × (report (tiring n) s t .next .slot .0 ≡ t + 1)
@@ -158,26 +154,24 @@ module _ (s : FlowSet) (g : good (recordFault s .refusal) ≡ true) (n : ℕ) (l
   tiring-ends zero =
       elim (decLe n 0) [
         | yes h ↦ let w = tired freshState h in ((λ l. w .0), omega arith)
-        | no h ↦ ((λ l. absurd (omega arith)), rw (tiring-below 0 (omega arith)) (report-slot s g 0 (omega arith)))
+        | no h ↦ ((λ l. absurd (omega arith)), rw (tiring-below 0 (omega arith)) (report-slot deadline-order s g 0 (omega arith)))
       ]
   tiring-ends (suc t) =
       elim (decLe n (suc t)) [
         | yes h ↦ let e = tiring-ends t .1 in let w = tired (report (tiring n) s t .next) (omega arith) in ((λ l. w .0), omega arith)
-        | no h ↦ ((λ l. absurd (omega arith)), rw (tiring-below (suc t) (omega arith)) (report-slot s g (suc t) (omega arith)))
+        | no h ↦ ((λ l. absurd (omega arith)), rw (tiring-below (suc t) (omega arith)) (report-slot deadline-order s g (suc t) (omega arith)))
       ]
 
 pub tiring-refuted : (n : ℕ) → n + 12 ≤ lastSlot → Promise (tiring n) → ⊥
 tiring-refuted n h =
     silent-refuted (tiring n) n h (λ t. tiring-ends (setFrom p5) (text-passes (bytes p5) (premises .of-p5 .read)) n (omega arith) t .0)
 
--- Document 01's own machine with bounds one less: flow 1 of P5 takes two slots, and no fewer.
-pub bounds-exact : PromiseWith (oneLess basics) (oneLess tights) stepOf → ⊥
-bounds-exact f =
-    let c = computed .of-p5 in
-    let a = c .releases in
-    let b = c .bounds in
-    unmade stepOf (setFrom p5) 1 0 (oneLess basics (setFrom p5) 1) (c .works .1) (λ t p h l i e. first t p (omega arith) i e)
-    (p5-kept (oneLess basics) (oneLess tights) stepOf f 1 (omega arith) .made 1 0 (omega (arith, c .flows)) (omega arith))
+-- Document 01's own machine with bounds one less, of either test: flow 1 of P5 takes two slots, and no fewer.
+pub bounds-exact : (PromiseOf (oneLess basic) stepOf → ⊥) × (PromiseOf (oneLess tightened) stepOf → ⊥)
+bounds-exact = (
+  λ f. exact basic (computed .of-p5 .bounds .1) (p5-kept (oneLess basic) stepOf f (premises .of-p5 .by-basic) 1 (omega arith)),
+  λ f. exact tightened (computed .of-p5 .tight) (p5-kept (oneLess tightened) stepOf f (premises .of-p5 .by-tightened) 1 (omega arith)),
+)
   where
     first : (t p : ℕ) → t < 1 → p < report stepOf (setFrom p5) t .sends → send (report stepOf (setFrom p5) t) p .flow ≡ 1 → ⊥
     first t p h i e =
@@ -187,17 +181,24 @@ bounds-exact f =
         let y = rw (z, q) at e in
         omega arith
 
+    exact : (test : Test) → test .bound (setFrom p5) 1 ≡ 2 → Kept stepOf (setFrom p5) (oneLess test .bound (setFrom p5)) 1 → ⊥
+    exact test b k =
+        let c = computed .of-p5 in
+        let a = c .releases in
+        unmade stepOf (setFrom p5) 1 0 (oneLess test .bound (setFrom p5) 1) (c .works .1) (λ t p h l i e. first t p (omega arith) i e)
+        (k .made 1 0 (omega (arith, c .flows)) (omega arith))
+
 -- The machine that does not count channels: it sends two flows of P5 on one.
 pub crowded-refuted : Promise crowded → ⊥
 crowded-refuted f =
     let c = computed .of-p5 in
-    omega (arith, p5-kept basics tights crowded f 1 (omega arith) .apart 0 (omega arith) .few, c .crowd, c .one-way)
+    omega (arith, basic-kept p5 (premises .of-p5) crowded f 1 (omega arith) .apart 0 (omega arith) .few, c .crowd, c .one-way)
 
 -- The machine that does not look at conflicts: in slot 0 of P7 it sends two flows that share node 2.
 pub reckless-refuted : Promise reckless → ⊥
 reckless-refuted f =
     let c = computed .met in
-    let k = basic-kept p7 (premises .of-p7) basics tights reckless f 1 (omega arith) in
+    let k = basic-kept p7 (premises .of-p7) reckless f 1 (omega arith) in
     k .apart 0 (omega arith) .nodes 0 1 (omega arith) (omega arith) .2 (c .1)
 
 -- The machine that takes the latest deadline first: it drops the packet that is due after slot 1, of a set that the tightened test admits.
@@ -205,31 +206,31 @@ pub backward-refuted : Promise backward → ⊥
 backward-refuted f =
     let c = computed .lost in
     let j = premises .of-tight in
-    let k = text-promise basics tights backward f (bytes tight) (j .read) 2 (omega arith) .1 (j .by-tightened) in
+    let k = text-promise tightened backward (f .1) (bytes tight) (j .read) (j .by-tightened) 2 (omega arith) in
     omega (arith, k .undropped 1 (omega arith))
 
 -- Two transmissions on one channel, one on a channel that is not the set's, one from a node to itself.
 pub crossed-refuted : Promise crossed → ⊥
 crossed-refuted f =
     let c = computed .cross in
-    basic-kept p7 (premises .of-p7) basics tights crossed f 1 (omega arith) .apart 0 (omega arith) .once 0 1 (omega arith) (omega arith) (c .1)
+    basic-kept p7 (premises .of-p7) crossed f 1 (omega arith) .apart 0 (omega arith) .once 0 1 (omega arith) (omega arith) (c .1)
 
 pub strayed-refuted : Promise strayed → ⊥
 strayed-refuted f =
     let c = computed .of-p5 .stray in
-    false≢true (sym (c .1) ∙ p5-kept basics tights strayed f 1 (omega arith) .apart 0 (omega arith) .own 0 (omega arith))
+    false≢true (sym (c .1) ∙ basic-kept p5 (premises .of-p5) strayed f 1 (omega arith) .apart 0 (omega arith) .own 0 (omega arith))
 
 pub looped-refuted : Promise looped → ⊥
 looped-refuted f =
-    let c = computed .of-p5 .loop in p5-kept basics tights looped f 1 (omega arith) .apart 0 (omega arith) .ends 0 (omega arith) (c .1)
+    let c = computed .of-p5 .loop in basic-kept p5 (premises .of-p5) looped f 1 (omega arith) .apart 0 (omega arith) .ends 0 (omega arith) (c .1)
 
 -- P8's four transmissions fill its four slots, so the first comes in slot 0,
-p8-first : (M : FlowSet → State → Stepped) → Promise M
+p8-first : (M : SlotMachine) → Promise M
     → (p : ℕ) × (p < report M (setFrom p8) 0 .sends) × Is (setFrom p8) 0 0 0 (send (report M (setFrom p8) 0) p)
 p8-first M f =
     let c = computed .of-p8 in
     let d = c .four in
-    let m = basic-kept p8 (premises .of-p8) basics tights M f 4 (omega arith) .made 0 0 (omega (arith, c .flows)) (omega arith) in
+    let m = basic-kept p8 (premises .of-p8) M f 4 (omega arith) .made 0 0 (omega (arith, c .flows)) (omega arith) in
     let e : m .at 0 ≡ 0 =
     omega (
       arith,
@@ -241,7 +242,7 @@ p8-first M f =
     rw e at (m .sent 0 (omega arith))
 
 -- where a report has one transmission, it is that
-p8-one : (M : FlowSet → State → Stepped) → Promise M → report M (setFrom p8) 0 .sends ≡ 1
+p8-one : (M : SlotMachine) → Promise M → report M (setFrom p8) 0 .sends ≡ 1
     → Is (setFrom p8) 0 0 0 (send (report M (setFrom p8) 0) 0)
 p8-one M f e =
     let w = p8-first M f in

@@ -1,4 +1,5 @@
--- What a slot of the run reports: the placed packets' transmissions at their places, and who is dropped.
+-- What a slot of the run reports, with any order of priority: the placed packets' transmissions at their places, and who is dropped. It is so
+-- because no step before the last slot is refused, and the report's arrays have room for all of them.
 use mathlib.Core.Path.{_≡_, refl, sym, ap, _∙_}
 use mathlib.Core.Logic.{inl, inr}
 use mathlib.Core.Bool.{Bool, true, false, cond}
@@ -18,11 +19,12 @@ use Rattle.model.specs.Refusals.{good}
 use Rattle.model.specs.Sets.{flowAt, memb, filterTo}
 use Rattle.document.specs.Reader.{recordFault}
 use Rattle.document.specs.Delay.{ways}
-use Rattle.document.specs.Machine.{hadAt, placedAt, noSend, sendOf, sendsFrom, sendsAt, droppedAt, filled, stepOf}
+use Rattle.document.specs.Machine.{Priority, hadAt, placedWith, noSend, sendOf, sendsFrom, sendsWith, droppedWith, filled, stepWith}
 use Rattle.laws.specs.Accepted.{accepted}
-use Rattle.promise.specs.Members.{memb-none, memb-case, memb-at}
+use Rattle.laws.specs.Members.{memb-empty, memb-case, memb-at}
 use Rattle.promise.specs.Promise.{report, send, Is}
-use Rattle.promise.specs.Run.{stateAt, choice, state-slot, report-good}
+use Rattle.promise.specs.SlotChoice.{Ordering}
+use Rattle.promise.specs.RunStates.{stateAt, choice, state-slot, report-good}
 use Rattle.promise.specs.Timetable.{placedIn, numberIn, number-eq}
 
 -- an array that has room shows its entries
@@ -46,7 +48,7 @@ sends-at s st o (k ∷ ks) (suc p) h =
 
 -- a number of a list has a place there
 pub memb-place : (k : ℕ) (ls : List ℕ) → memb k ls ≡ true → (p : ℕ) × (p < length ls) × (getD ls p 0 ≡ k)
-memb-place k [] h = absurd (memb-none k h)
+memb-place k [] h = absurd (memb-empty k h)
 memb-place k (l ∷ ls) h =
     elim (memb-case k l ls h) [
       | inl e ↦ (0, omega arith, sym e)
@@ -93,58 +95,60 @@ filter-at q (suc n) p h = go (q n) refl h (filter-at q n p)
         last true e h i = let z : length l ≡ p = omega arith in rw (getD-at l n [] 0 p z) (le-refl (suc n), e)
         last false e h i = absurd (omega arith)
 
-module _ (s : FlowSet) (g : good (recordFault s .refusal) ≡ true) where
-  -- as many as are placed
-  pub sends-eq : (t : ℕ) → t < lastSlot → report stepOf s t .sends ≡ length (placedAt s (stateAt s t))
-  sends-eq t h = ap (λ (r : Stepped). r .sends) (report-good s g t h) ∙ sends-length s (stateAt s t) 0 (placedAt s (stateAt s t))
+-- From here on: the machine with any order of priority.
+module _ {first : Priority} (o : Ordering first) where
+  module _ (s : FlowSet) (g : good (recordFault s .refusal) ≡ true) where
+    -- as many as are placed
+    pub sends-eq : (t : ℕ) → t < lastSlot → report (stepWith first) s t .sends ≡ length (placedWith first s (stateAt first s t))
+    sends-eq t h = ap (λ (r : Stepped). r .sends) (report-good o s g t h) ∙ sends-length s (stateAt first s t) 0 (placedWith first s (stateAt first s t))
 
-  pub sends-le : (t : ℕ) → t < lastSlot → report stepOf s t .sends ≤ ways s
-  sends-le t h = omega (arith, sends-eq t h, choice s (stateAt s t) .few)
+    pub sends-le : (t : ℕ) → t < lastSlot → report (stepWith first) s t .sends ≤ ways s
+    sends-le t h = omega (arith, sends-eq t h, choice o s (stateAt first s t) .few)
 
-  -- and each as rule 5 has it
-  pub send-eq : (t p : ℕ) → t < lastSlot → s .map .0 < 2 ^ mostChannels → p < report stepOf s t .sends
-      → send (report stepOf s t) p ≡ sendOf s (stateAt s t) (getD (placedAt s (stateAt s t)) p 0) p
-  send-eq t p h b l =
-      let st = stateAt s t in
-      let e = sends-length s st 0 (placedAt s st) in
-      ap (λ (r : Stepped). send r p) (report-good s g t h)
-      ∙ filled-at mostChannels noSend (sendsAt s st) p (omega (arith, sends-eq t h)) (omega (arith, sends-le t h, ones-le mostChannels (s .map .0) b))
-      ∙ sends-at s st 0 (placedAt s st) p (omega (arith, sends-eq t h))
-      ∙ rw (zero-add p)
+    -- and each as rule 5 has it
+    pub send-eq : (t p : ℕ) → t < lastSlot → s .map .0 < 2 ^ mostChannels → p < report (stepWith first) s t .sends
+        → send (report (stepWith first) s t) p ≡ sendOf s (stateAt first s t) (getD (placedWith first s (stateAt first s t)) p 0) p
+    send-eq t p h b l =
+        let st = stateAt first s t in
+        let e = sends-length s st 0 (placedWith first s st) in
+        ap (λ (r : Stepped). send r p) (report-good o s g t h)
+        ∙ filled-at mostChannels noSend (sendsWith first s st) p (omega (arith, sends-eq t h)) (omega (arith, sends-le t h, ones-le mostChannels (s .map .0) b))
+        ∙ sends-at s st 0 (placedWith first s st) p (omega (arith, sends-eq t h))
+        ∙ rw (zero-add p)
 
-  pub send-is : (k t p : ℕ) → t < lastSlot → Is s t k (numberIn s k t) (sendOf s (stateAt s t) k p)
-  unfolding sendOf
-  send-is k t p h =
-      let n = number-eq s g k t (omega arith) in
-      record {
-        which = (state-slot s g t (omega arith), refl, ap (λ (i : ℕ). i % flowAt s k .tries) n);
-        from = link-from (flowAt s k .route) (hadAt s (stateAt s t) k / flowAt s k .tries)
-            ∙ ap (λ (i : ℕ). getD (flowAt s k .route) (i / flowAt s k .tries) 0) n;
-        to = link-to (flowAt s k .route) (hadAt s (stateAt s t) k / flowAt s k .tries)
-            ∙ ap (λ (i : ℕ). getD (flowAt s k .route) (i / flowAt s k .tries + 1) 0) n;
-      }
+    pub send-is : (k t p : ℕ) → t < lastSlot → Is s t k (numberIn first s k t) (sendOf s (stateAt first s t) k p)
+    unfolding sendOf
+    send-is k t p h =
+        let n = number-eq o s g k t (omega arith) in
+        record {
+          which = (state-slot o s g t (omega arith), refl, ap (λ (i : ℕ). i % flowAt s k .tries) n);
+          from = link-from (flowAt s k .route) (hadAt s (stateAt first s t) k / flowAt s k .tries)
+              ∙ ap (λ (i : ℕ). getD (flowAt s k .route) (i / flowAt s k .tries) 0) n;
+          to = link-to (flowAt s k .route) (hadAt s (stateAt first s t) k / flowAt s k .tries)
+              ∙ ap (λ (i : ℕ). getD (flowAt s k .route) (i / flowAt s k .tries + 1) 0) n;
+        }
 
-  -- a placed packet's transmission is reported, as rule 3 has it
-  pub placed-sent : (k t : ℕ) → t < lastSlot → s .map .0 < 2 ^ mostChannels → placedIn s k t ≡ true
-      → (p : ℕ) × (p < report stepOf s t .sends) × Is s t k (numberIn s k t) (send (report stepOf s t) p)
-  placed-sent k t h b e =
-      let st = stateAt s t in
-      let w = memb-place k (placedAt s st) e in
-      let l : w .0 < report stepOf s t .sends = omega (arith, sends-eq t h) in
-      (w .0, l, rw (send-eq t (w .0) h b l, w .2) (send-is k t (w .0) h))
+    -- a placed packet's transmission is reported, as rule 3 has it
+    pub placed-sent : (k t : ℕ) → t < lastSlot → s .map .0 < 2 ^ mostChannels → placedIn first s k t ≡ true
+        → (p : ℕ) × (p < report (stepWith first) s t .sends) × Is s t k (numberIn first s k t) (send (report (stepWith first) s t) p)
+    placed-sent k t h b e =
+        let st = stateAt first s t in
+        let w = memb-place k (placedWith first s st) e in
+        let l : w .0 < report (stepWith first) s t .sends = omega (arith, sends-eq t h) in
+        (w .0, l, rw (send-eq t (w .0) h b l, w .2) (send-is k t (w .0) h))
 
-  -- transmission p of the report is of a packet that is placed
-  pub sent-placed : (t p : ℕ) → t < lastSlot → p < report stepOf s t .sends → placedIn s (getD (placedAt s (stateAt s t)) p 0) t ≡ true
-  sent-placed t p h l = memb-at (placedAt s (stateAt s t)) p (omega (arith, sends-eq t h))
+    -- transmission p of the report is of a packet that is placed
+    pub sent-placed : (t p : ℕ) → t < lastSlot → p < report (stepWith first) s t .sends → placedIn first s (getD (placedWith first s (stateAt first s t)) p 0) t ≡ true
+    sent-placed t p h l = memb-at (placedWith first s (stateAt first s t)) p (omega (arith, sends-eq t h))
 
-  -- as many as are dropped, and each of them is
-  pub drops-eq : (t : ℕ) → t < lastSlot → report stepOf s t .drops ≡ length (filterTo (droppedAt s (stateAt s t)) (s .count))
-  drops-eq t h = ap (λ (r : Stepped). r .drops) (report-good s g t h)
+    -- as many as are dropped, and each of them is
+    pub drops-eq : (t : ℕ) → t < lastSlot → report (stepWith first) s t .drops ≡ length (filterTo (droppedWith first s (stateAt first s t)) (s .count))
+    drops-eq t h = ap (λ (r : Stepped). r .drops) (report-good o s g t h)
 
-  pub dropped-eq : (t p : ℕ) → t < lastSlot → p < report stepOf s t .drops
-      → getD (report stepOf s t .dropped) p 0 ≡ getD (filterTo (droppedAt s (stateAt s t)) (s .count)) p 0
-  dropped-eq t p h l =
-      let xs = filterTo (droppedAt s (stateAt s t)) (s .count) in
-      let c = accepted s g .count-le in
-      ap (λ (r : Stepped). getD (r .dropped) p 0) (report-good s g t h)
-      ∙ filled-at mostFlows 0 xs p (omega (arith, drops-eq t h)) (omega (arith, drops-eq t h, filter-length (droppedAt s (stateAt s t)) (s .count)))
+    pub dropped-eq : (t p : ℕ) → t < lastSlot → p < report (stepWith first) s t .drops
+        → getD (report (stepWith first) s t .dropped) p 0 ≡ getD (filterTo (droppedWith first s (stateAt first s t)) (s .count)) p 0
+    dropped-eq t p h l =
+        let xs = filterTo (droppedWith first s (stateAt first s t)) (s .count) in
+        let c = accepted s g .count-le in
+        ap (λ (r : Stepped). getD (r .dropped) p 0) (report-good o s g t h)
+        ∙ filled-at mostFlows 0 xs p (omega (arith, drops-eq t h)) (omega (arith, drops-eq t h, filter-length (droppedWith first s (stateAt first s t)) (s .count)))

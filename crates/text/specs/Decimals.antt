@@ -51,7 +51,7 @@ pub decimal-size : (n : ℕ) → 10 ≤ n → n < tenDigits → length (decimal 
 decimal-size n h l = ap length (decimal-more n h l) ∙ length-append (decimal (n / 10)) _
 
 -- a count of digits: those counted, with those of what is left, are the number's
-pub record Counted (v n digits : ℕ) : Type 0 where
+pub record DigitsCounted (v n digits : ℕ) : Type 0 where
   pub sum : digits + length (decimal n) ≡ length (decimal v) + 1
   pub small : n < tenDigits
   pub least : 1 ≤ length (decimal n)
@@ -63,10 +63,10 @@ digits-least n h =
       | no l ↦ omega (arith, ap length (decimal-one n (omega arith)))
     ]
 
-pub counted-start : (v : ℕ) → v < tenDigits → Counted v v 1
+pub counted-start : (v : ℕ) → v < tenDigits → DigitsCounted v v 1
 counted-start v h = record { sum = omega arith; small = h; least = digits-least v h }
 
-pub counted-more : (v n digits : ℕ) → Counted v n digits → 10 ≤ n → Counted v (n / 10) (digits + 1)
+pub counted-more : (v n digits : ℕ) → DigitsCounted v n digits → 10 ≤ n → DigitsCounted v (n / 10) (digits + 1)
 counted-more v n digits c h =
     record {
       sum = omega (arith, c .sum, decimal-size n h (c .small));
@@ -74,7 +74,7 @@ counted-more v n digits c h =
       least = digits-least (n / 10) (omega (arith, c .small));
     }
 
-pub counted-done : (v n digits : ℕ) → Counted v n digits → n < 10 → digits ≡ length (decimal v)
+pub counted-done : (v n digits : ℕ) → DigitsCounted v n digits → n < 10 → digits ≡ length (decimal v)
 counted-done v n digits c h = omega (arith, c .sum, ap length (decimal-one n h))
 
 -- a number has at most ten digits

@@ -6,7 +6,7 @@ use native.Mathlib.Omega.{arith}
 use lib.ListN.{length, getD, take, set, replicate}
 use lib.Seq.{sets, sets-eq, length-take-le, take-all}
 use Rattle.model.specs.Limits.{mostNodes}
-use Rattle.text.specs.DigitsStored.{sets-append, take-next}
+use Rattle.text.specs.DigitsPut.{sets-append, take-next}
 
 -- a route that is copied behind a flow's four numbers
 pub record Copied (o r out : List ℕ) (i : ℕ) : Type 0 where

@@ -9,8 +9,8 @@ use lib.Dec.{leb, ltb, eqb}
 use lib.ListN.{length}
 use borrow.Author.Tests.{ne-eqb, le-leb, lt-ltb, leb-true, ltb-true, eqb-false, not-true}
 use Rattle.document.specs.Text.{isDigit, allDigits, plain, valueFrom, valueOf, isNumber, decimal}
-use Rattle.laws.specs.Sums.{and-l, and-r}
-use Rattle.text.specs.Digits.{value-grows, good-number}
+use Rattle.laws.specs.SumLaws.{and-l, and-r}
+use Rattle.text.specs.DigitsRead.{value-grows, good-number}
 use Rattle.text.specs.Decimals.{tenDigits, top, decimal-one, decimal-more, decimal-size}
 
 -- one digit more at the end

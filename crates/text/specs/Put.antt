@@ -6,7 +6,7 @@ use native.Mathlib.Decide.{decLe}
 use native.Mathlib.Omega.{arith}
 use lib.ListN.{length, getD, take, length-append}
 use Rattle.document.specs.Text.{decimal, decimals, tabbed, lineOf}
-use Rattle.text.specs.DigitsStored.{sets-append, sets-out, take-next}
+use Rattle.text.specs.DigitsPut.{sets-append, sets-out, take-next}
 use lib.Seq.{sets, length-sets}
 
 -- the last place there is: no buffer is longer

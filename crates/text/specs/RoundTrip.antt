@@ -13,19 +13,20 @@ use Rattle.model.specs.Refusals.{good}
 use Rattle.model.specs.Sets.{noFlow, used, anyOf, SameSet}
 use Rattle.document.specs.Reader.{twice, flowFault, flowsFault, recordFault, flowLines, readText, textOf}
 use Rattle.document.specs.Text.{decimalIn, decimal, tabbed, decimals, lineOf}
-use Rattle.text.specs.Again.{longestText, read-written, read-length}
-use Rattle.text.specs.LinesAgain.{small}
-use Rattle.text.specs.Written.{Stored, written-read}
-use Rattle.text.specs.Zeros.{Zeroed, read-zeroed}
+use Rattle.text.specs.ReadThenWritten.{longestText, read-written, read-length}
+use Rattle.text.specs.WrittenLines.{small}
+use Rattle.text.specs.HeldByCode.{HeldRecord}
+use Rattle.text.specs.WrittenThenRead.{written-read}
+use Rattle.text.specs.ReadZeros.{Zeroed, read-zeroed}
 
 -- (i) what is written of a set that passes the record check is read, without a fault, as the same set, and all other entries are 0
-pub record Returns (s : FlowSet) : Type 0 where
+pub record ReadAgain (s : FlowSet) : Type 0 where
   pub no-fault : good (readText (textOf (used s)) .fault .refusal) ≡ true
   pub same-set : SameSet (readText (textOf (used s)) .set) s
   pub others-zero : Zeroed (readText (textOf (used s)) .set)
 
-pub returns : (s : FlowSet) → Stored s → good (recordFault (used s) .refusal) ≡ true → Returns s
-returns s st h =
+pub read-again : (s : FlowSet) → HeldRecord s → good (recordFault (used s) .refusal) ≡ true → ReadAgain s
+read-again s st h =
     let w = written-read s st h in
     record { no-fault = w .0; same-set = w .1; others-zero = read-zeroed (textOf (used s)) }
 
@@ -52,9 +53,9 @@ longFlow =
 longSet : FlowSet
 longSet = record { map = record { 0 = 65535 }; count = mostFlows; flows = replicate mostFlows longFlow }
 
-long-stored : Stored longSet
+long-held : HeldRecord longSet
 unfolding longSet longFlow small
-long-stored =
+long-held =
     record {
       flows-are = refl;
       map-fits = omega arith;
@@ -70,4 +71,4 @@ unfolding longSet longFlow textOf used flowLines lineOf tabbed decimals decimal 
 long-length = refl
 
 pub attained : (s : List ℕ) × (length s ≡ longestText) × (good (readText s .fault .refusal) ≡ true)
-attained = (textOf (used longSet), long-length, returns longSet long-stored long-good .no-fault)
+attained = (textOf (used longSet), long-length, read-again longSet long-held long-good .no-fault)

@@ -11,12 +11,12 @@ use lib.Dec.{eqb}
 use lib.ListN.{length, getD, take, drop, set, replicate, drop-of-length-le, List·getD-eq-default, length-set}
 use lib.Seq.{drop-cons, drop-drop, drop-nil, sets, set-out}
 use borrow.Author.Tests.{ne-eqb}
-use Rattle.laws.specs.Sums.{and-l, and-r}
+use Rattle.laws.specs.SumLaws.{and-l, and-r}
 use Rattle.document.specs.Reader.{pad}
 use Rattle.document.specs.Text.{same, ended, fields, valueOf, isNumber, allNumbers, valuesOf, wellFormed, numbersOf}
 use Rattle.text.specs.declared.line.NumberRead.the-variants.{Value, Refused}
 use Rattle.text.specs.Places.{first, more, line}
-use Rattle.text.specs.Numbers.{numberIf, numberIn}
+use Rattle.text.specs.NumberAnswers.{numberIf, numberIn}
 use Rattle.text.specs.Row.{mostNumbers, noRow, rowIf, rowIn}
 use Rattle.text.specs.Fields.{Sep, is-tab, is-lf, within, sep, fields-parts, more-within, line-within, Past, past-first}
 
@@ -51,16 +51,16 @@ sets-zeros (suc n) m [] h = zeros-take (suc n) m h
 sets-zeros (suc n) m (v ∷ vs) h = sets-cons vs (replicate n 0) v 0 ∙ ap (λ (l : List ℕ). v ∷ l) (sets-zeros n m vs (omega arith))
 
 -- what a number's answer says
-pub record Read (f : List ℕ) (from v next : ℕ) : Type 0 where
+pub record NumberReads (f : List ℕ) (from v next : ℕ) : Type 0 where
   pub good : isNumber f ≡ true
   pub value : v ≡ valueOf f
   pub place : next ≡ from + length f
 
-pub number-value : (from : ℕ) (f : List ℕ) (v next : ℕ) → numberIn from f ≡ Value v next → Read f from v next
+pub number-value : (from : ℕ) (f : List ℕ) (v next : ℕ) → numberIn from f ≡ Value v next → NumberReads f from v next
 unfolding numberIn
 number-value from f v next h = go (isNumber f) refl h
   where
-    go : (b : Bool) → isNumber f ≡ b → numberIf b from f ≡ Value v next → Read f from v next
+    go : (b : Bool) → isNumber f ≡ b → numberIf b from f ≡ Value v next → NumberReads f from v next
     go true e h = record { good = e; value = cc; place = cc }
     go false e h = let z : _≡_ {A = ℕ} 0 1 = cc in absurd (omega arith)
 
@@ -111,7 +111,7 @@ unfolding rowIn
 row-refused word from t h = rw h
 
 -- the reading of a line's numbers that has come to place i with k numbers, the first of them in ns
-pub record Numbers (s : List ℕ) (from i k : ℕ) (ns : List ℕ) : Type 0 where
+pub record NumbersSoFar (s : List ℕ) (from i k : ℕ) (ns : List ℕ) : Type 0 where
   pub form : wellFormed [] (drop from s) ≡ wellFormed [] (drop i s)
   pub few : k + length (numbersOf (drop i s)) ≡ length (numbersOf (drop from s))
   pub kept : sets ns k (numbersOf (drop i s)) ≡ sets (replicate mostNumbers 0) 0 (numbersOf (drop from s))
@@ -119,10 +119,10 @@ pub record Numbers (s : List ℕ) (from i k : ℕ) (ns : List ℕ) : Type 0 wher
   pub size : from + length (line (drop from s)) ≡ i + length (line (drop i s))
   pub slow : k ≤ i
 
-pub numbers-start : (s : List ℕ) (from : ℕ) → Numbers s from from 0 (replicate mostNumbers 0)
+pub numbers-start : (s : List ℕ) (from : ℕ) → NumbersSoFar s from from 0 (replicate mostNumbers 0)
 numbers-start s from = record { form = refl; few = omega arith; kept = refl; long = refl; size = refl; slow = zero-le }
 
-module _ (s : List ℕ) (from i k : ℕ) (ns : List ℕ) (inv : Numbers s from i k ns) where
+module _ (s : List ℕ) (from i k : ℕ) (ns : List ℕ) (inv : NumbersSoFar s from i k ns) where
   -- a tab, and the number after it
   tabbed-here : getD s i 0 ≡ 9 → drop i s ≡ 9 ∷ drop (i + 1) s
   tabbed-here e = drop-byte s i 9 e (omega arith) .1
@@ -133,7 +133,7 @@ module _ (s : List ℕ) (from i k : ℕ) (ns : List ℕ) (inv : Numbers s from i
       (inv .form ∙ ap (wellFormed []) (tabbed-here e) ∙ formed-tab (drop (i + 1) s) ∙ rw (number-bad (i + 1) (first (drop (i + 1) s)) h))
 
   pub numbers-more : (v next : ℕ) → getD s i 0 ≡ 9 → numberIn (i + 1) (first (drop (i + 1) s)) ≡ Value v next
-      → Numbers s from next (k + 1) (set ns k v)
+      → NumbersSoFar s from next (k + 1) (set ns k v)
   unfolding line
   numbers-more v next e h = go (number-value (i + 1) (first t) v next h) (past-first t)
     where
@@ -143,7 +143,7 @@ module _ (s : List ℕ) (from i k : ℕ) (ns : List ℕ) (inv : Numbers s from i
       here : (n : ℕ) → next ≡ (i + 1) + n → drop next s ≡ drop n t
       here n q = rw (q, drop-drop n (i + 1) s)
 
-      go : Read (first t) (i + 1) v next → Past t (drop (length (first t)) t) (length (first t)) → Numbers s from next (k + 1) (set ns k v)
+      go : NumberReads (first t) (i + 1) v next → Past t (drop (length (first t)) t) (length (first t)) → NumbersSoFar s from next (k + 1) (set ns k v)
       go r p =
           let at = here _ (r .place) in
           let split : numbersOf (drop i s) ≡ v ∷ numbersOf (drop next s) =
@@ -167,8 +167,8 @@ module _ (s : List ℕ) (from i k : ℕ) (ns : List ℕ) (inv : Numbers s from i
   numbers-full v out h e = set-out ns k v (omega (arith, inv .long)) ∙ sym e
 
   pub numbers-next : (v next : ℕ) (out : List ℕ) → set ns k v ≡ out → getD s i 0 ≡ 9 → numberIn (i + 1) (first (drop (i + 1) s)) ≡ Value v next
-      → Numbers s from next (k + 1) out
-  numbers-next v next out q e h = subst (λ (l : List ℕ). Numbers s from next (k + 1) l) q (numbers-more v next e h)
+      → NumbersSoFar s from next (k + 1) out
+  numbers-next v next out q e h = subst (λ (l : List ℕ). NumbersSoFar s from next (k + 1) l) q (numbers-more v next e h)
 
   -- a byte that is not 0 stands within the text
   pub numbers-inside : (b : ℕ) → getD s i 0 ≡ b → 0 < b → i < length s

@@ -1,4 +1,4 @@
-// A number's decimal digits, stored into a lent buffer as far as it goes, and the numbers of a flow's line.
+// A number's decimal digits, stored into a lent buffer as far as it goes.
 ghost use mathlib.Core.Path.{_≡_};
 ghost use lib.ListN.{length, set};
 ghost use Prim.Native.Nat.{_+_, _≤_};

@@ -3,7 +3,7 @@
 ghost use mathlib.Core.Path.{_≡_};
 ghost use Prim.Native.Nat.{_≤_};
 ghost use Rattle.text.specs.Places.{first, lookAt, lookByte};
-ghost use Rattle.text.specs.Numbers.{numberIn, numberOf};
+ghost use Rattle.text.specs.NumberAnswers.{numberIn, numberOf};
 ghost use lib.ListN.{drop, getD};
 ghost use Rattle.text.specs.Row.{noRow, rowIn};
 ghost use mathlib.Core.List.{[]};
@@ -140,7 +140,7 @@ fn numbers_at(s: &[u8], from: usize) -> Row
     Row::none()
 }
 
-// Whether a byte is of a field, and this one.
+// Whether byte b is byte c of a word: a tab or an LF is of no word.
 fn is_byte(b: u8, c: u8) -> bool
     ensures { λ r. ⌜ r ≡ isByte b c ⌝ }
 {
@@ -153,7 +153,7 @@ fn is_byte(b: u8, c: u8) -> bool
     b == c
 }
 
-// Whether this byte of a word stands at a place.
+// Whether byte c of a word stands at a place.
 fn begins(s: &[u8], at: usize, c: u8) -> bool
     ensures { λ r. ⌜ r ≡ begins c (drop at (now (s .entry))) ⌝ }
 {

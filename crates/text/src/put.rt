@@ -15,7 +15,7 @@ use model::ChannelMap;
 use model::Fault;
 use model::Send;
 
-// The place so many bytes on; the last place there is where that would be beyond it.
+// The place n bytes on, or the last place that there is.
 fn advance(at: usize, n: usize) -> usize
     ensures { λ r. ⌜ r ≡ min (at + n) lastPlace ⌝ }
 {
@@ -95,6 +95,7 @@ pub fn put_refused(out: &mut [u8], at: usize, fault: Fault) -> usize
     put_line(out, at, b"refused", &numbers)
 }
 
+// The line of one send.
 fn put_send(out: &mut [u8], at: usize, x: Send) -> usize
     ensures { λ r. ⌜ Put (now (out .entry)) at (lineOf sendWord (sendNumbers x)) (now (out .exit)) r ⌝ }
 {
@@ -110,7 +111,7 @@ fn put_send(out: &mut [u8], at: usize, x: Send) -> usize
 }
 
 // How many sends there are: none beyond the array.
-fn number_of(n: u16) -> usize
+fn count_of_sends(n: u16) -> usize
     ensures { λ r. ⌜ (r ≡ min n mostChannels) × (r ≤ mostChannels) ⌝ }
 {
     let m = n as usize;
@@ -125,7 +126,7 @@ fn number_of(n: u16) -> usize
 pub fn put_sends(out: &mut [u8], at: usize, sent: [Send; ChannelMap::MOST], n: u16) -> usize
     ensures { λ r. ⌜ Put (now (out .entry)) at (sendLines (take n sent)) (now (out .exit)) r ⌝ }
 {
-    let m = number_of(n);
+    let m = count_of_sends(n);
     let mut place = at;
     let mut i: usize = 0;
     while i < m {

@@ -1,7 +1,7 @@
 // The reader: line by line, the first faulty line decides, and within it the lowest of 1 to 9. A line is judged by its row of numbers, its form
 // first, then its rules: rule 2 of the first line, rules 3 to 9 of a flow line, which then gives its flow.
 ghost use mathlib.Core.Path.{_≡_};
-ghost use Rattle.text.specs.Judged.{answerOf, firstRowFault, flowOfRow, flowRowFault, flowWith, nodesOf, setWith};
+ghost use Rattle.text.specs.RowFaults.{readingOf, firstRowFault, flowOfRow, flowRowFault, flowWith, nodesOf, setWith};
 ghost use Prim.Native.Nat.{_+_, _≤_};
 ghost use lib.ListN.{drop};
 ghost use Rattle.document.specs.Text.{flowWord, lines, setWord};
@@ -44,7 +44,7 @@ fn flow_fault(k: usize, row: Row) -> Refusal
     Refusal::BadForm
 }
 
-// The flow that a flow line's numbers make, with so many nodes.
+// The flow that a flow line's numbers make, with this number of nodes.
 fn flow_with(numbers: [u16; Row::MOST], nodes: u16) -> Flow
     ensures { λ r. ⌜ r ≡ flowWith numbers nodes ⌝ }
 {
@@ -71,16 +71,16 @@ fn first_fault(row: Row) -> Refusal
     Refusal::BadForm
 }
 
-// The reader's answer; a refusal comes with the blank set.
-fn answer(refusal: Refusal, line: u32, set: FlowSet) -> Reading
-    ensures { λ r. ⌜ r ≡ answerOf refusal line set ⌝ }
+// The reader's answer of these parts; a refusal comes with the blank set.
+fn reading_of(refusal: Refusal, line: u32, set: FlowSet) -> Reading
+    ensures { λ r. ⌜ r ≡ readingOf refusal line set ⌝ }
 {
     let fault = Fault { refusal, line };
     Reading { fault, set }
 }
 
-// The line of flow number k.
-fn line_of(k: usize) -> u32
+// The number of the line of flow number k.
+fn line_number_of(k: usize) -> u32
     requires { ⌜ k ≤ 4294967290 ⌝ }
     ensures { λ r. ⌜ r ≡ k + 2 ⌝ }
 {
@@ -96,8 +96,8 @@ fn flow_of(row: Row) -> Flow
     flow_with(numbers, (row.count - 4) as u16)
 }
 
-// The line at a place as a flow's.
-fn flow_line(text: &[u8], at: usize) -> Row
+// The row of the flow line at a place.
+fn flow_row(text: &[u8], at: usize) -> Row
     ensures { λ r. ⌜ r ≡ rowIn flowWord at (drop at (now (text .entry))) ⌝ }
 {
     line::line_at(text, at, b"flow")
@@ -108,16 +108,16 @@ fn read_flows(text: &[u8], from: usize, map: u16) -> Reading
     ensures { λ r. ⌜ r ≡ readFlows (setWith map) (lines (drop from (now (text .entry)))) ⌝ }
 {
     let blank = FlowSet::blank();
-    let channels = ChannelMap(map);
+    let channels = ChannelMap::new(map);
     let mut set = blank;
     set.map = channels;
     let mut at = from;
     let mut k = 0usize;
     while at < text.len() {
-        let row = flow_line(text, at);
+        let row = flow_row(text, at);
         let refusal = flow_fault(k, row);
         if refusal.code() != 0 {
-            return answer(refusal, line_of(k), blank);
+            return reading_of(refusal, line_number_of(k), blank);
         }
         let flow = flow_of(row);
         set.flows[k] = flow;
@@ -125,11 +125,11 @@ fn read_flows(text: &[u8], from: usize, map: u16) -> Reading
         set.count = k as u16;
         at = row.next;
     }
-    answer(Refusal::Nothing, 0, set)
+    reading_of(Refusal::Nothing, 0, set)
 }
 
-// The first line as a set's.
-fn set_line(text: &[u8]) -> Row
+// The row of the first line.
+fn set_row(text: &[u8]) -> Row
     ensures { λ r. ⌜ r ≡ rowIn setWord 0 (now (text .entry)) ⌝ }
 {
     line::line_at(text, 0, b"set")
@@ -139,7 +139,7 @@ fn set_line(text: &[u8]) -> Row
 pub fn read(text: &[u8]) -> Reading
     ensures { λ r. ⌜ r ≡ readText (now (text .entry)) ⌝ }
 {
-    let row = set_line(text);
+    let row = set_row(text);
     let refusal = first_fault(row);
     if refusal.code() != 0 {
         let fault = Fault { refusal, line: 1 };

@@ -1,16 +1,17 @@
-// A number's decimal digits, stored into a lent buffer as far as it goes, and the numbers of a flow's line.
-// The lines of a set's text, put into a buffer as far as it goes.
 // The writer: the record check first, then the buffer's room, then the text and nothing else. What holds of a set's text that is read and
 // written stands in specs/RoundTrip.antt.
 ghost use mathlib.Core.Path.{_≡_};
 ghost use Prim.Native.Nat.{_+_, _-_, _≤_, min};
-ghost use Rattle.document.specs.Reader.{flowLines, flowNumbers, textOf, writeAnswer, writeInto};
+ghost use mathlib.Core.Bool.{true};
+ghost use Rattle.document.specs.Reader.{flowLines, flowNumbers, recordFault, textOf, writeAnswer, writeInto};
+ghost use Rattle.model.specs.Refusals.{good};
+ghost use Rattle.text.specs.RoundTrip.{ReadAgain};
 ghost use Rattle.model.specs.Limits.{mostFlows, mostNodes};
 ghost use Rattle.model.specs.Sets.{exact, used};
 ghost use Rattle.document.specs.Text.{flowWord, lineOf};
 ghost use Rattle.text.specs.Put.{Put, lastPlace};
 ghost use lib.ListN.{length};
-ghost use Rattle.text.specs.Room.{roomAnswer, roomInto};
+ghost use Rattle.text.specs.WriteRoom.{roomAnswer, roomInto};
 use crate::put;
 use model::Fault;
 use model::Flow;
@@ -45,8 +46,8 @@ pub fn flow_numbers(f: Flow) -> Numbers
     numbers
 }
 
-// How many of them its line has: no node beyond the array.
-fn line_numbers(f: Flow) -> usize
+// How many numbers a flow's line has: no node beyond the array.
+fn count_of_numbers(f: Flow) -> usize
     ensures { λ r. ⌜ (r ≡ 4 + min (f .nodes) mostNodes) × (r ≤ 21) ⌝ }
 {
     let n = f.nodes as usize;
@@ -62,7 +63,7 @@ fn put_flow(out: &mut [u8], at: usize, f: Flow) -> usize
     ensures { λ r. ⌜ Put (now (out .entry)) at (lineOf flowWord (flowNumbers (exact f))) (now (out .exit)) r ⌝ }
 {
     let numbers = flow_numbers(f);
-    let n = line_numbers(f);
+    let n = count_of_numbers(f);
     put::put_line(out, at, b"flow", &numbers[..n])
 }
 
@@ -118,36 +119,23 @@ fn write_text(s: FlowSet, out: &mut [u8]) -> Written
 {
     let n = text_length(out, s);
     if out.len() < n {
-        let none = Fault {
-            refusal: Refusal::NoRoom,
-            line: 0,
-        };
-        return Written {
-            fault: none,
-            length: 0,
-        };
+        let fault = Fault::of(Refusal::NoRoom);
+        return Written { fault, length: 0 };
     }
     put_set(out, 0, s);
-    let good = Fault {
-        refusal: Refusal::Nothing,
-        line: 0,
-    };
-    Written {
-        fault: good,
-        length: n,
-    }
+    let fault = Fault::none();
+    Written { fault, length: n }
 }
 
-// Writes a set's text into the buffer, unless the record check or the room refuses it.
+// Writes a set's text into the buffer, unless the record check or the room refuses it. The text of a record that passes the check,
+// read again, is the same set.
 pub fn write(s: FlowSet, out: &mut [u8]) -> Written
-    ensures { λ r. ⌜
-        (r ≡ writeAnswer (used s) (length (now (out .entry))))
-        × (now (out .exit) ≡ writeInto (used s) (now (out .entry)))
-        ⌝ }
+    ensures answer { λ r. ⌜ r ≡ writeAnswer (used s) (length (now (out .entry))) ⌝ }
+    ensures bytes { λ r. ⌜ now (out .exit) ≡ writeInto (used s) (now (out .entry)) ⌝ }
+    ensures again { λ r. ⌜ (good (recordFault (used s) .refusal) ≡ true → ReadAgain s) ⌝ }
 {
     let fault = rules::record_fault(s);
-    let refusal = fault.refusal;
-    if refusal.code() != 0 {
+    if fault.refuses() {
         return Written { fault, length: 0 };
     }
     write_text(s, out)

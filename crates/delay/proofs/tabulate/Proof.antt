@@ -1,31 +1,28 @@
 -- `tabulate`: the flows' numbers, S, and the rows made of them. Assumes nothing beyond its `requires`.
 use Rattle.model.specs.Sets.{used}
-use Rattle.delay.specs.Checked.{count-at}
-use Rattle.delay.specs.Tabulated.{numbers-lent, conflicts-lent, done-lent, small-rows, rows-pos, tabled}
+use Rattle.delay.specs.AcceptedFlows.{count-at}
+use Rattle.delay.specs.DelayTables.{flow-numbers-lent, conflicts-lent, shares-lent, small-rows, rows-pos, tables-hold}
 use borrow.Author.Needs.{needs}
 use Rattle.delay.proofs.tabulate.Statement.{statement}
 use Rattle.delay.proofs.tabulate.Tie as tie
 
-numbers-requires : tie.Need-numbers-requires
-numbers-requires c κs = (c .before .before .before .pre .0, numbers-lent _ (c .before .before .before .pre .1) _)
+periods-deadlines-work-requires : tie.Need-periods-deadlines-work-requires
+periods-deadlines-work-requires c κs = (c .before .before .before .pre .0, flow-numbers-lent _ (c .before .before .before .pre .1 .0) _ _ (c .before .before .before .pre .1 .1))
 
-conflicts-requires : tie.Need-conflicts-requires
-conflicts-requires c κs = (c .before .before .before .before .before .pre .0, conflicts-lent _ (c .before .before .before .before .before .pre .1) _ _)
+conflict-work-of-all-requires : tie.Need-conflict-work-of-all-requires
+conflict-work-of-all-requires c κs = (c .before .before .before .before .before .pre .0, conflicts-lent _ (c .before .before .before .before .before .pre .1 .0) _ _)
 
-cast-rows : tie.Need-cast-rows
-cast-rows c = search needs
-
-rows-requires : tie.Need-rows-requires
+shares-of-flows-requires : tie.Need-shares-of-flows-requires
 unfolding used
-rows-requires c κs =
+shares-of-flows-requires c κs =
     let g = c .before .before .before .before .before .before .before .before in
     let n = g .before .before in
     let b = n .before .before .before .before in
     let a = b .pre .0 in
     let u = used (b .args .s) in
-    let o = n .numbers .ensures in
-    let s = g .conflicts .ensures in
-    ((count-at (b .args .s) a, rows-pos u a _ _ _ o _ s, small-rows u a _ _ _ o _ s), done-lent _ (b .pre .1) _ _ _ _ _)
+    let o = n .periods-deadlines-work .ensures in
+    let s = g .conflict-work-of-all .ensures in
+    ((count-at (b .args .s) a, rows-pos u a _ _ _ o _ s, small-rows u a _ _ _ o _ s), shares-lent _ (b .pre .1 .0) _ _ _ _ _)
 
 returns : tie.Need-returns
 unfolding used
@@ -33,8 +30,11 @@ returns c =
     let g = c .before .before .before .before .before .before .before .before .before in
     let n = g .before .before in
     let b = n .before .before .before .before in
-    tabled (used (b .args .s)) (b .pre .0) _ _ _ (n .numbers .ensures) _ (g .conflicts .ensures) _ _ _ (c .rows .ensures)
+    let o = n .periods-deadlines-work .ensures in (
+      record { entries = o .deadlines; small = o .deadlines-le },
+      tables-hold (used (b .args .s)) (b .pre .0) _ _ _ o _ (g .conflict-work-of-all .ensures) _ _ _ (c .shares-of-flows .ensures),
+    )
 
 pub tabulate-spec : {M : Type 1} → statement M
 tabulate-spec =
-    tie.close (tie.spec numbers-requires conflicts-requires cast-rows rows-requires returns)
+    tie.close (tie.spec periods-deadlines-work-requires conflict-work-of-all-requires (λ c. search needs) shares-of-flows-requires returns)

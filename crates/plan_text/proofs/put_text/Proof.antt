@@ -4,29 +4,21 @@ use mathlib.Core.Path.{sym, ap, _∙_}
 use Rattle.model.specs.declared.answers.Refusal.the-variants.{NoRoom}
 use Rattle.model.specs.Refusals.{faultAt}
 use Rattle.text.specs.Put.{put-same}
-use Rattle.plan_text.specs.Plans.{planRead}
-use Rattle.plan_text.specs.Readings.{read-pass}
-use Rattle.plan_text.specs.Planning.{text-long, text-short, refused-le}
+use Rattle.plan_text.specs.PlanOfReading.{planRead}
+use Rattle.plan_text.specs.ReadSetsPass.{read-pass}
+use Rattle.plan_text.specs.PlanInBuffer.{text-long, text-short, refused-le}
 use Rattle.plan_text.proofs.put_text.Statement.{statement}
 use Rattle.plan_text.proofs.put_text.Tie as tie
 
-is-long-requires : tie.Need-is-long-requires
-is-long-requires c κs = tt
-
-put-long-requires : tie.Need-put-long-requires
-put-long-requires c κs = tt
-
 same-length : tie.Need-same-length
-same-length c = c .before .before .put-long .kept .0
+same-length c = c .before .before .put-too-long .kept .0
 
 returns : tie.Need-returns
 returns c =
-    let a = c .before .before .before .before .before .before .before .before .args in
-    let e = text-long (a .input .now) (sym (c .before .before .before .before .before .is-long .ensures) ∙ c .before .before .before .before .if1 .taken) in
-    (put-same _ _ _ _ _ _ (sym e) (c .before .before .put-long .ensures), rw e (refused-le (faultAt NoRoom 0)))
-
-read-requires : tie.Need-read-requires
-read-requires c κs = tt
+    let test = c .before .before .before .before in
+    let input = test .before .before .before .before .args .input .now in
+    let e = text-long input (sym (test .before .is-too-long .ensures) ∙ test .if1 .taken) in
+    (put-same _ _ _ _ _ _ (sym e) (c .before .before .put-too-long .ensures), rw e (refused-le (faultAt NoRoom 0)))
 
 put-reading-requires : tie.Need-put-reading-requires
 put-reading-requires c κs = λ g.
@@ -38,20 +30,21 @@ same-length-2 c = c .before .before .put-reading .kept .0
 
 returns-2 : tie.Need-returns-2
 returns-2 c =
-    let a = c .before .before .before .before .before .before .before .before .before .args in
+    let test = c .before .before .before .before .before in
+    let input = test .before .before .before .before .args .input .now in
     let w = c .before .before .put-reading .ensures in
-    let e = text-short (a .input .now) (sym (c .before .before .before .before .before .before .is-long .ensures) ∙ c .before .before .before .before .before .if1 .left) ∙ ap planRead (sym (c .before .before .before .before .read .ensures)) in
+    let e = text-short input (sym (test .before .is-too-long .ensures) ∙ test .if1 .left) ∙ ap planRead (sym (c .before .before .before .before .read .ensures)) in
     (put-same _ _ _ _ _ _ (sym e) (w .0), rw e (w .1))
 
 pub put-text-spec : {M : Type 1} → statement M
 put-text-spec =
     tie.close
     (tie.spec
-    is-long-requires
-    put-long-requires
+    (λ c κs. tt)
+    (λ c κs. tt)
     same-length
     returns
-    read-requires
+    (λ c κs. tt)
     put-reading-requires
     same-length-2
     returns-2)

@@ -1,18 +1,12 @@
--- `probe_read` tells what the function below ensures. Assumes nothing.
+-- `probe_read` numbers what the reader ensures. Assumes nothing.
 use mathlib.Core.Path.{ap, _∙_}
-use Rattle.probe.specs.Told.{toldReading}
+use Rattle.probe.specs.RecordNumbers.{readingNumbers}
 use borrow.Author.Needs.{needs}
 use Rattle.probe.proofs.probe_read.Statement.{statement}
 use Rattle.probe.proofs.probe_read.Tie as tie
 
-read-requires : tie.Need-read-requires
-read-requires c κs = search needs
-
-told-reading-requires : tie.Need-told-reading-requires
-told-reading-requires c κs = search needs
-
 returns : tie.Need-returns
-returns c = c .told-reading .ensures ∙ ap toldReading (c .before .read .ensures)
+returns c = c .reading-numbers .ensures ∙ ap readingNumbers (c .before .read .ensures)
 
 pub probe-read-spec : {M : Type 1} → statement M
-probe-read-spec = tie.close (tie.spec read-requires told-reading-requires returns)
+probe-read-spec = tie.close (tie.spec (λ c κs. search needs) (λ c κs. search needs) returns)

@@ -1,18 +1,12 @@
--- `probe_step` tells what the function below ensures. Assumes nothing.
+-- `probe_step` numbers what the step ensures. Assumes nothing.
 use mathlib.Core.Path.{ap, _∙_}
-use Rattle.probe.specs.Told.{toldStepped}
+use Rattle.probe.specs.RecordNumbers.{steppedNumbers}
 use borrow.Author.Needs.{needs}
 use Rattle.probe.proofs.probe_step.Statement.{statement}
 use Rattle.probe.proofs.probe_step.Tie as tie
 
-step-requires : tie.Need-step-requires
-step-requires c κs = search needs
-
-told-stepped-requires : tie.Need-told-stepped-requires
-told-stepped-requires c κs = search needs
-
 returns : tie.Need-returns
-returns c = c .told-stepped .ensures ∙ ap toldStepped (c .before .step .ensures)
+returns c = c .stepped-numbers .ensures ∙ ap steppedNumbers (c .before .step .ensures)
 
 pub probe-step-spec : {M : Type 1} → statement M
-probe-step-spec = tie.close (tie.spec step-requires told-stepped-requires returns)
+probe-step-spec = tie.close (tie.spec (λ c κs. search needs) (λ c κs. search needs) returns)

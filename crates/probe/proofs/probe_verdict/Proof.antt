@@ -1,18 +1,12 @@
--- `probe_verdict` tells what the function below ensures. Assumes nothing.
+-- `probe_verdict` numbers what the verdict ensures. Assumes nothing.
 use mathlib.Core.Path.{ap, _∙_}
-use Rattle.probe.specs.Told.{toldVerdict}
+use Rattle.document.specs.ForC.{verdictNumbers}
 use borrow.Author.Needs.{needs}
 use Rattle.probe.proofs.probe_verdict.Statement.{statement}
 use Rattle.probe.proofs.probe_verdict.Tie as tie
 
-verdict-requires : tie.Need-verdict-requires
-verdict-requires c κs = search needs
-
-told-verdict-requires : tie.Need-told-verdict-requires
-told-verdict-requires c κs = search needs
-
 returns : tie.Need-returns
-returns c = c .told-verdict .ensures ∙ ap toldVerdict (c .before .verdict .ensures)
+returns c = c .verdict-numbers .ensures ∙ ap verdictNumbers (c .before .verdict .ensures)
 
 pub probe-verdict-spec : {M : Type 1} → statement M
-probe-verdict-spec = tie.close (tie.spec verdict-requires told-verdict-requires returns)
+probe-verdict-spec = tie.close (tie.spec (λ c κs. search needs) (λ c κs. search needs) returns)

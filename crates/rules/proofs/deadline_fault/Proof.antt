@@ -18,13 +18,10 @@ returns-2 : tie.Need-returns-2
 unfolding deadlineFault
 returns-2 c = simp (ne-eqb _ _ (c .before .if1 .left), lt-ltb _ _ (above c))
 
-tries-fault-requires : tie.Need-tries-fault-requires
-tries-fault-requires c κs = search needs
-
 returns-3 : tie.Need-returns-3
 unfolding deadlineFault
 returns-3 c =
     simp (ne-eqb _ _ (c .before .before .if1 .left), le-ltb _ _ (c .before .if2 .left)) (c .tries-fault .ensures)
 
 pub deadline-fault-spec : {M : Type 1} → statement M
-deadline-fault-spec = tie.close (tie.spec returns returns-2 tries-fault-requires returns-3)
+deadline-fault-spec = tie.close (tie.spec returns returns-2 (λ c κs. search needs) returns-3)

@@ -19,13 +19,10 @@ returns-2 : tie.Need-returns-2
 unfolding flowFault
 returns-2 c = simp (lt-leb _ _ (c .before .if1 .left), eq-eqb _ _ (none c))
 
-deadline-fault-requires : tie.Need-deadline-fault-requires
-deadline-fault-requires c κs = search needs
-
 returns-3 : tie.Need-returns-3
 unfolding flowFault deadlineFault triesFault routeFault workFault
 returns-3 c =
     simp (lt-leb _ _ (c .before .before .if1 .left), ne-eqb _ _ (c .before .if2 .left)) (c .deadline-fault .ensures)
 
 pub flow-fault-spec : {M : Type 1} → statement M
-flow-fault-spec = tie.close (tie.spec returns returns-2 deadline-fault-requires returns-3)
+flow-fault-spec = tie.close (tie.spec returns returns-2 (λ c κs. search needs) returns-3)

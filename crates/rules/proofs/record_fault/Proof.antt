@@ -5,19 +5,10 @@ use Rattle.rules.specs.RecordFlows.{record-first, record-on}
 use Rattle.rules.proofs.record_fault.Statement.{statement}
 use Rattle.rules.proofs.record_fault.Tie as tie
 
-map-fault-requires : tie.Need-map-fault-requires
-map-fault-requires c κs = search needs
-
-code-requires : tie.Need-code-requires
-code-requires c κs = search needs
-
 returns : tie.Need-returns
 returns c =
     record-first (c .before .before .before .args .s) (c .before .before .map-fault .result) (c .before .before .map-fault .ensures)
     (λ e. c .if1 .taken (c .before .code .ensures ∙ e))
-
-flows-fault-requires : tie.Need-flows-fault-requires
-flows-fault-requires c κs = search needs
 
 returns-2 : tie.Need-returns-2
 returns-2 c =
@@ -26,4 +17,4 @@ returns-2 c =
     (sym (c .before .before .code .ensures) ∙ c .before .if1 .left)
 
 pub record-fault-spec : {M : Type 1} → statement M
-record-fault-spec = tie.close (tie.spec map-fault-requires code-requires returns flows-fault-requires returns-2)
+record-fault-spec = tie.close (tie.spec (λ c κs. search needs) (λ c κs. search needs) returns (λ c κs. search needs) returns-2)

@@ -20,16 +20,10 @@ returns-2 : tie.Need-returns-2
 unfolding routeFault
 returns-2 c = simp (le-ltb _ _ (c .before .if1 .left), lt-ltb _ _ (above c))
 
-repeats-requires : tie.Need-repeats-requires
-repeats-requires c κs = search needs
-
 returns-3 : tie.Need-returns-3
 unfolding routeFault
 returns-3 c =
     simp (le-ltb _ _ (c .before .before .before .if1 .left), le-ltb _ _ (c .before .before .if2 .left), sym (c .before .repeats .ensures) ∙ c .if3 .taken)
-
-work-fault-requires : tie.Need-work-fault-requires
-work-fault-requires c κs = search needs
 
 returns-4 : tie.Need-returns-4
 unfolding routeFault
@@ -39,4 +33,4 @@ returns-4 c =
 pub route-fault-spec : {M : Type 1} → statement M
 route-fault-spec =
     tie.close
-    (tie.spec returns returns-2 repeats-requires returns-3 work-fault-requires returns-4)
+    (tie.spec returns returns-2 (λ c κs. search needs) returns-3 (λ c κs. search needs) returns-4)

@@ -18,13 +18,10 @@ returns-2 : tie.Need-returns-2
 unfolding triesFault
 returns-2 c = simp (ne-eqb _ _ (c .before .if1 .left), lt-ltb _ _ (above c))
 
-route-fault-requires : tie.Need-route-fault-requires
-route-fault-requires c κs = search needs
-
 returns-3 : tie.Need-returns-3
 unfolding triesFault
 returns-3 c =
     simp (ne-eqb _ _ (c .before .before .if1 .left), le-ltb _ _ (c .before .if2 .left)) (c .route-fault .ensures)
 
 pub tries-fault-spec : {M : Type 1} → statement M
-tries-fault-spec = tie.close (tie.spec returns returns-2 route-fault-requires returns-3)
+tries-fault-spec = tie.close (tie.spec returns returns-2 (λ c κs. search needs) returns-3)

@@ -10,9 +10,6 @@ use Rattle.model.specs.Limits.{mostLinks}
 use Rattle.rules.proofs.work_fault.Statement.{statement}
 use Rattle.rules.proofs.work_fault.Tie as tie
 
-sub-work : tie.Need-sub-work
-sub-work c = search needs
-
 mul-work : tie.Need-mul-work
 mul-work c =
     let a = c .args in
@@ -29,4 +26,4 @@ unfolding workFault
 returns-2 c = simp (le-ltb _ _ (c .if1 .left))
 
 pub work-fault-spec : {M : Type 1} → statement M
-work-fault-spec = tie.close (tie.spec sub-work mul-work returns returns-2)
+work-fault-spec = tie.close (tie.spec (λ c. search needs) mul-work returns returns-2)

@@ -6,10 +6,9 @@ use lib.ListN.{length}
 use Rattle.model.specs.Sets.{flowAt, used, links}
 use Rattle.document.specs.Delay.{conflictWork}
 use Rattle.laws.specs.Used.{used-flow}
-use Rattle.delay.specs.Grid.{RowDone, conflictOf}
-use Rattle.delay.specs.Checked.{good-at, count-at}
-use Rattle.delay.specs.Fill.{row-start, row-next}
-use Rattle.delay.specs.Routes.{work-ends}
+use Rattle.delay.specs.PairGrids.{RowDone, conflictOf, row-start, row-next}
+use Rattle.delay.specs.AcceptedFlows.{good-at, count-at}
+use Rattle.delay.specs.RouteMarks.{work-ends}
 use borrow.Author.Needs.{needs}
 use Rattle.model.specs.Limits.{mostFlows}
 use Rattle.delay.proofs.conflicts.conflict_row.Statement.{statement}
@@ -21,45 +20,18 @@ Inv-loop k t₀ s mine nodes m n l₀ t l = (l ≤ n) × (n ≤ mostFlows) × Ro
 abbrev μ-loop : tie.MeasureT-loop
 μ-loop k t₀ s mine nodes m n l₀ t l = n - l
 
-mul-me : tie.Need-mul-me Inv-loop μ-loop
-mul-me c = search needs
-
 element-copy-out-me : tie.Need-element-copy-out-me Inv-loop μ-loop
 element-copy-out-me c = omega (arith, count-at (c .args .t1) (c .pre .0))
-
-route-requires : tie.Need-route-requires Inv-loop μ-loop
-route-requires c κs = search needs
-
-cast-nodes : tie.Need-cast-nodes Inv-loop μ-loop
-cast-nodes c = search needs
 
 marks-requires : tie.Need-marks-requires Inv-loop μ-loop
 marks-requires c κs =
     let b = c .before .before .before .before in
     good-at (b .args .t1) (b .pre .0) (b .args .k) (b .pre .1 .0) .nodes-le
 
-cast-n : tie.Need-cast-n Inv-loop μ-loop
-cast-n c = search needs
-
 loop-holds : tie.Need-loop-holds Inv-loop μ-loop
 loop-holds c =
     let b = c .before .before .before .before .before in
     (search needs, count-at (b .args .t1) (b .pre .0), row-start _ _ _ (b .pre .1 .1))
-
-mul-f : tie.Need-mul-f Inv-loop μ-loop
-mul-f c = search needs
-
-element-copy-out-f : tie.Need-element-copy-out-f Inv-loop μ-loop
-element-copy-out-f c = search needs
-
-route-requires-2 : tie.Need-route-requires-2 Inv-loop μ-loop
-route-requires-2 c κs = search needs
-
-links-requires : tie.Need-links-requires Inv-loop μ-loop
-links-requires c κs = search needs
-
-cast-links : tie.Need-cast-links Inv-loop μ-loop
-cast-links c = search needs
 
 links-touched-requires : tie.Need-links-touched-requires Inv-loop μ-loop
 links-touched-requires c κs =
@@ -76,24 +48,6 @@ times-requires c κs =
     let b = w .before .before .before .before .before .before in
     let other = good-at (b .args .t1) (b .pre .0) (w .loop .l) (c .before .before .before .before .before .before .before .loop-test .taken) in
     (other .tries-le, c .links-touched .ensures .1)
-
-mul-t : tie.Need-mul-t Inv-loop μ-loop
-mul-t c = search needs
-
-add-t : tie.Need-add-t Inv-loop μ-loop
-add-t c = search needs
-
-mul-t-2 : tie.Need-mul-t-2 Inv-loop μ-loop
-mul-t-2 c = search needs
-
-element-write-t : tie.Need-element-write-t Inv-loop μ-loop
-element-write-t c = search needs
-
-add-l : tie.Need-add-l Inv-loop μ-loop
-add-l c = search needs
-
-loop-less : tie.Need-loop-less Inv-loop μ-loop
-loop-less c = search needs
 
 loop-again : tie.Need-loop-again Inv-loop μ-loop
 loop-again c =
@@ -120,25 +74,25 @@ conflict-row-spec =
     (tie.spec
     Inv-loop
     μ-loop
-    mul-me
+    (λ c. search needs)
     element-copy-out-me
-    route-requires
-    cast-nodes
+    (λ c κs. search needs)
+    (λ c. search needs)
     marks-requires
-    cast-n
+    (λ c. search needs)
     loop-holds
-    mul-f
-    element-copy-out-f
-    route-requires-2
-    links-requires
-    cast-links
+    (λ c. search needs)
+    (λ c. search needs)
+    (λ c κs. search needs)
+    (λ c κs. search needs)
+    (λ c. search needs)
     links-touched-requires
     times-requires
-    mul-t
-    add-t
-    mul-t-2
-    element-write-t
-    add-l
-    loop-less
+    (λ c. search needs)
+    (λ c. search needs)
+    (λ c. search needs)
+    (λ c. search needs)
+    (λ c. search needs)
+    (λ c. search needs)
     loop-again
     returns)

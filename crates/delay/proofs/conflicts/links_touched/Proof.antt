@@ -4,8 +4,8 @@ use Prim.Native.Nat.{ℕ, _+_, _-_, _≤_}
 use native.Mathlib.Omega.{arith}
 use lib.ListN.{take}
 use Rattle.model.specs.Sums.{bit}
-use Rattle.laws.specs.Sums.{sum-next, sum-zero}
-use Rattle.delay.specs.Marks.{endsOn}
+use Rattle.laws.specs.SumLaws.{sum-next, sum-zero}
+use Rattle.delay.specs.RouteMarks.{endsOn}
 use borrow.Author.Needs.{needs}
 use Rattle.delay.proofs.conflicts.links_touched.Statement.{statement}
 use Rattle.delay.proofs.conflicts.links_touched.Tie as tie
@@ -20,26 +20,11 @@ loop-holds : tie.Need-loop-holds Inv-loop μ-loop
 unfolding endsOn
 loop-holds c = (search needs, search needs, sym (sum-zero _ 0 (λ x h. omega arith)))
 
-touches-requires : tie.Need-touches-requires Inv-loop μ-loop
-touches-requires c κs = search needs
-
-one-if-requires : tie.Need-one-if-requires Inv-loop μ-loop
-one-if-requires c κs = search needs
-
-add-touched : tie.Need-add-touched Inv-loop μ-loop
-add-touched c = search needs
-
-add-i : tie.Need-add-i Inv-loop μ-loop
-add-i c = search needs
-
-loop-less : tie.Need-loop-less Inv-loop μ-loop
-loop-less c = search needs
-
 loop-again : tie.Need-loop-again Inv-loop μ-loop
 unfolding endsOn
 loop-again c =
     let w = c .before .before .before .loop in
-    let e = c .one-if .ensures .0 ∙ ap bit (c .before .touches .ensures) in
+    let e = c .bit .ensures .0 ∙ ap bit (c .before .link-touches .ensures) in
     (search needs, search needs, ap₂ (λ (x y : ℕ). x + y) (w .inv .2) e ∙ sym (sum-next _ (w .i)))
 
 returns : tie.Need-returns Inv-loop μ-loop
@@ -55,10 +40,11 @@ links-touched-spec =
     Inv-loop
     μ-loop
     loop-holds
-    touches-requires
-    one-if-requires
-    add-touched
-    add-i
-    loop-less
+    (λ c κs. search needs)
+    (λ c κs. search needs)
+    (λ c. search needs)
+    (λ c. search needs)
+    (λ c. search needs)
+    (λ c. search needs)
     loop-again
     returns)

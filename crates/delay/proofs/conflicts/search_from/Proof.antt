@@ -4,16 +4,10 @@ use mathlib.Core.Bool.{Bool, cond}
 use Prim.Native.Nat.{_%_}
 use borrow.Author.Tests.{eq-eqb, ne-eqb}
 use lib.ListN.{getD}
-use Rattle.delay.specs.Routes.{memb-past, unmarked}
+use Rattle.delay.specs.RouteMarks.{memb-past, unmarked}
 use borrow.Author.Needs.{needs}
 use Rattle.delay.proofs.conflicts.search_from.Statement.{statement}
 use Rattle.delay.proofs.conflicts.search_from.Tie as tie
-
-cast-at : tie.Need-cast-at
-cast-at c = search needs
-
-element-copy-out-if1 : tie.Need-element-copy-out-if1
-element-copy-out-if1 c = search needs
 
 returns : tie.Need-returns
 returns c =
@@ -30,4 +24,4 @@ returns-2 c =
     (λ r k. refl, sym (ap (λ (b : Bool). cond b (a .n) 0) e))
 
 pub search-from-spec : {M : Type 1} → statement M
-search-from-spec = tie.close (tie.spec cast-at element-copy-out-if1 returns returns-2)
+search-from-spec = tie.close (tie.spec (λ c. search needs) (λ c. search needs) returns returns-2)

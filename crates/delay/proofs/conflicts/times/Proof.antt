@@ -8,8 +8,5 @@ use Rattle.delay.proofs.conflicts.times.Tie as tie
 mul-result : tie.Need-mul-result
 mul-result c = record { fits = lt-of-le-of-lt (mul-le-mul (c .pre .0) (c .pre .1)) (lit< tt) }
 
-returns : tie.Need-returns
-returns c = search needs
-
 pub times-spec : {M : Type 1} → statement M
-times-spec = tie.close (tie.spec mul-result returns)
+times-spec = tie.close (tie.spec mul-result (λ c. search needs))

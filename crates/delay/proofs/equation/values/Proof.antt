@@ -2,19 +2,17 @@
 use mathlib.Core.Path.{_≡_}
 use Prim.Native.Nat.{_-_, _≤_}
 use native.Mathlib.Omega.{arith}
-use Rattle.delay.specs.Tables.{tablesOf}
-use Rattle.delay.specs.RowSums.{tableValue}
-use Rattle.delay.specs.Steps.{ValuesTo}
-use Rattle.delay.specs.ValuesFilled.{values-start, values-next}
+use Rattle.delay.specs.DelayTables.{tablesOf}
+use Rattle.delay.specs.EquationValues.{tableValue, ValuesTo, values-start, values-next}
 use borrow.Author.Needs.{needs}
 use Rattle.delay.proofs.equation.values.Statement.{statement}
 use Rattle.delay.proofs.equation.values.Tie as tie
 
 abbrev Inv-loop : tie.InvT-loop
-Inv-loop n m conflict remainder work deadline whole-conflict whole-work gone out₀ j₀ out j = (j ≤ n) × ValuesTo (tableValue (tablesOf conflict remainder work deadline whole-conflict whole-work) m gone) j out
+Inv-loop n m conflict remainder work whole-conflict whole-work slack out₀ j₀ out j = (j ≤ n) × ValuesTo (tableValue (tablesOf conflict remainder work whole-conflict whole-work) m slack) j out
 
 abbrev μ-loop : tie.MeasureT-loop
-μ-loop n m conflict remainder work deadline whole-conflict whole-work gone out₀ j₀ out j = n - j
+μ-loop n m conflict remainder work whole-conflict whole-work slack out₀ j₀ out j = n - j
 
 loop-holds : tie.Need-loop-holds Inv-loop μ-loop
 loop-holds c = (search needs, values-start _)
@@ -24,18 +22,6 @@ value-requires c κs =
     let b = c .before .before in
     let h = c .loop-test .taken in
     ((omega arith, b .pre .0 .1), b .pre .1 _ _ (omega arith))
-
-mul-out : tie.Need-mul-out Inv-loop μ-loop
-mul-out c = search needs
-
-array-write-out : tie.Need-array-write-out Inv-loop μ-loop
-array-write-out c = search needs
-
-add-j : tie.Need-add-j Inv-loop μ-loop
-add-j c = search needs
-
-loop-less : tie.Need-loop-less Inv-loop μ-loop
-loop-less c = search needs
 
 loop-again : tie.Need-loop-again Inv-loop μ-loop
 loop-again c =
@@ -56,9 +42,9 @@ values-spec =
     μ-loop
     loop-holds
     value-requires
-    mul-out
-    array-write-out
-    add-j
-    loop-less
+    (λ c. search needs)
+    (λ c. search needs)
+    (λ c. search needs)
+    (λ c. search needs)
     loop-again
     returns)

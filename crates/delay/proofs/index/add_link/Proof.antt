@@ -16,32 +16,8 @@ Inv-loop a b users touched₀ first second k₀ touched k = (k ≤ mostFlows) ×
 abbrev μ-loop : tie.MeasureT-loop
 μ-loop a b users touched₀ first second k₀ touched k = mostFlows - k
 
-mul-first : tie.Need-mul-first Inv-loop μ-loop
-mul-first c = search needs
-
-mul-second : tie.Need-mul-second Inv-loop μ-loop
-mul-second c = search needs
-
 loop-holds : tie.Need-loop-holds Inv-loop μ-loop
 loop-holds c = (search needs, added-start _ _ _ _ (c .pre .0 .2))
-
-element-copy-out-old : tie.Need-element-copy-out-old Inv-loop μ-loop
-element-copy-out-old c = search needs
-
-add-larger : tie.Need-add-larger Inv-loop μ-loop
-add-larger c = search needs
-
-element-copy-out-larger : tie.Need-element-copy-out-larger Inv-loop μ-loop
-element-copy-out-larger c = search needs
-
-add-larger-2 : tie.Need-add-larger-2 Inv-loop μ-loop
-add-larger-2 c = search needs
-
-element-copy-out-larger-2 : tie.Need-element-copy-out-larger-2 Inv-loop μ-loop
-element-copy-out-larger-2 c = search needs
-
-larger-requires : tie.Need-larger-requires Inv-loop μ-loop
-larger-requires c κs = search needs
 
 add-touched : tie.Need-add-touched Inv-loop μ-loop
 add-touched c =
@@ -52,15 +28,6 @@ add-touched c =
     let y = b .pre .1 .0 (b .args .a * mostFlows + w .k) in
     let z = b .pre .1 .0 (b .args .b * mostFlows + w .k) in
     omega (arith, c .larger .ensures)
-
-element-write-touched : tie.Need-element-write-touched Inv-loop μ-loop
-element-write-touched c = search needs
-
-add-k : tie.Need-add-k Inv-loop μ-loop
-add-k c = search needs
-
-loop-less : tie.Need-loop-less Inv-loop μ-loop
-loop-less c = search needs
 
 loop-again : tie.Need-loop-again Inv-loop μ-loop
 loop-again c =
@@ -81,18 +48,18 @@ add-link-spec =
     (tie.spec
     Inv-loop
     μ-loop
-    mul-first
-    mul-second
+    (λ c. search needs)
+    (λ c. search needs)
     loop-holds
-    element-copy-out-old
-    add-larger
-    element-copy-out-larger
-    add-larger-2
-    element-copy-out-larger-2
-    larger-requires
+    (λ c. search needs)
+    (λ c. search needs)
+    (λ c. search needs)
+    (λ c. search needs)
+    (λ c. search needs)
+    (λ c κs. search needs)
     add-touched
-    element-write-touched
-    add-k
-    loop-less
+    (λ c. search needs)
+    (λ c. search needs)
+    (λ c. search needs)
     loop-again
     returns)

@@ -3,8 +3,8 @@ use mathlib.Core.Path.{_≡_, refl}
 use Prim.Native.Nat.{_-_, _≤_}
 use native.Mathlib.Omega.{arith}
 use Rattle.model.specs.Sets.{flowAt, used}
-use Rattle.delay.specs.Grid.{conflictOf}
-use Rattle.delay.specs.Checked.{good-at, count-at}
+use Rattle.delay.specs.PairGrids.{conflictOf}
+use Rattle.delay.specs.AcceptedFlows.{good-at, count-at}
 use Rattle.delay.specs.IndexPlaces.{placed-all}
 use Rattle.delay.specs.IndexColumns.{ColumnsTo}
 use Rattle.delay.specs.IndexLinks.{columns-start, columns-next, columns-rows, column-ext, work-met}
@@ -19,17 +19,8 @@ Inv-loop rows users t₀ s n l₀ t l = (l ≤ n) × (n ≤ mostFlows) × Column
 abbrev μ-loop : tie.MeasureT-loop
 μ-loop rows users t₀ s n l₀ t l = n - l
 
-cast-n : tie.Need-cast-n Inv-loop μ-loop
-cast-n c = search needs
-
 loop-holds : tie.Need-loop-holds Inv-loop μ-loop
 loop-holds c = (search needs, count-at (c .args .t1) (c .pre .0 .0), columns-start _ _ _ (c .pre .0 .1))
-
-mul-f : tie.Need-mul-f Inv-loop μ-loop
-mul-f c = search needs
-
-element-copy-out-f : tie.Need-element-copy-out-f Inv-loop μ-loop
-element-copy-out-f c = search needs
 
 meet-requires : tie.Need-meet-requires Inv-loop μ-loop
 meet-requires c κs =
@@ -40,12 +31,6 @@ meet-requires c κs =
       (w .inv .1, omega arith, g .nodes-ge, g .nodes-le, g .tries-le, w .inv .2 .whole),
       (placed-all s (s .count) (b .args .rows .now) (count-at s (b .pre .0 .0)) (b .pre .1 .0), b .pre .1 .1 .one),
     )
-
-add-l : tie.Need-add-l Inv-loop μ-loop
-add-l c = search needs
-
-loop-less : tie.Need-loop-less Inv-loop μ-loop
-loop-less c = search needs
 
 loop-again : tie.Need-loop-again Inv-loop μ-loop
 loop-again c =
@@ -72,12 +57,12 @@ by-index-spec =
     (tie.spec
     Inv-loop
     μ-loop
-    cast-n
+    (λ c. search needs)
     loop-holds
-    mul-f
-    element-copy-out-f
+    (λ c. search needs)
+    (λ c. search needs)
     meet-requires
-    add-l
-    loop-less
+    (λ c. search needs)
+    (λ c. search needs)
     loop-again
     returns)

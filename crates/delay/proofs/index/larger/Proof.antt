@@ -3,11 +3,5 @@ use borrow.Author.Needs.{needs}
 use Rattle.delay.proofs.index.larger.Statement.{statement}
 use Rattle.delay.proofs.index.larger.Tie as tie
 
-returns : tie.Need-returns
-returns c = search needs
-
-returns-2 : tie.Need-returns-2
-returns-2 c = search needs
-
 pub larger-spec : {M : Type 1} → statement M
-larger-spec = tie.close (tie.spec returns returns-2)
+larger-spec = tie.close (tie.spec (λ c. search needs) (λ c. search needs))

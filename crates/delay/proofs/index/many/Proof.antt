@@ -10,11 +10,5 @@ place-requires c κs = (c .before .pre .0, placed-start _)
 mark-requires : tie.Need-mark-requires
 mark-requires c κs = (c .before .before .before .before .pre .0, c .before .before .place .ensures, users-start _ _)
 
-by-index-requires : tie.Need-by-index-requires
-by-index-requires c κs = search needs
-
-returns : tie.Need-returns
-returns c = search needs
-
 pub many-spec : {M : Type 1} → statement M
-many-spec = tie.close (tie.spec place-requires mark-requires by-index-requires returns)
+many-spec = tie.close (tie.spec place-requires mark-requires (λ c κs. search needs) (λ c. search needs))

@@ -3,7 +3,7 @@ use mathlib.Core.Path.{_≡_}
 use Prim.Native.Nat.{_-_, _≤_, _<_}
 use native.Mathlib.Omega.{arith}
 use Rattle.model.specs.Sets.{flowAt}
-use Rattle.delay.specs.Checked.{good-at, count-at}
+use Rattle.delay.specs.AcceptedFlows.{good-at, count-at}
 use Rattle.delay.specs.Index.{UsersTo}
 use Rattle.delay.specs.IndexPlaces.{placed-all, users-self, users-none, users-flow}
 use borrow.Author.Needs.{needs}
@@ -17,17 +17,8 @@ Inv-loop rows users₀ s n k₀ users k = (k ≤ n) × (n ≤ mostFlows) × User
 abbrev μ-loop : tie.MeasureT-loop
 μ-loop rows users₀ s n k₀ users k = n - k
 
-cast-n : tie.Need-cast-n Inv-loop μ-loop
-cast-n c = search needs
-
 loop-holds : tie.Need-loop-holds Inv-loop μ-loop
 loop-holds c = (search needs, count-at (c .args .t1) (c .pre .0), c .pre .2)
-
-mul-f : tie.Need-mul-f Inv-loop μ-loop
-mul-f c = search needs
-
-element-copy-out-f : tie.Need-element-copy-out-f Inv-loop μ-loop
-element-copy-out-f c = search needs
 
 mark-route-requires : tie.Need-mark-route-requires Inv-loop μ-loop
 mark-route-requires c κs =
@@ -40,12 +31,6 @@ mark-route-requires c κs =
       (good-at s (b .pre .0) (w .k) h .nodes-le, k, placed-all s (s .count) rows (count-at s (b .pre .0)) (b .pre .1), b .pre .1 .flows (w .k) h),
       (users-self s rows (w .k) (w .users) k (w .inv .2), users-none s rows (w .k) (w .users) k (w .inv .2) (flowAt s (w .k) .route)),
     )
-
-add-k : tie.Need-add-k Inv-loop μ-loop
-add-k c = search needs
-
-loop-less : tie.Need-loop-less Inv-loop μ-loop
-loop-less c = search needs
 
 loop-again : tie.Need-loop-again Inv-loop μ-loop
 loop-again c =
@@ -64,12 +49,12 @@ mark-spec =
     (tie.spec
     Inv-loop
     μ-loop
-    cast-n
+    (λ c. search needs)
     loop-holds
-    mul-f
-    element-copy-out-f
+    (λ c. search needs)
+    (λ c. search needs)
     mark-route-requires
-    add-k
-    loop-less
+    (λ c. search needs)
+    (λ c. search needs)
     loop-again
     returns)

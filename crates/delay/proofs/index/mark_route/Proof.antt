@@ -16,38 +16,11 @@ Inv-loop k rows users₀ f n j₀ users j = (j ≤ n) × (n ≤ mostNodes) × (l
 abbrev μ-loop : tie.MeasureT-loop
 μ-loop k rows users₀ f n j₀ users j = n - j
 
-cast-n : tie.Need-cast-n Inv-loop μ-loop
-cast-n c = search needs
-
-loop-holds : tie.Need-loop-holds Inv-loop μ-loop
-loop-holds c = search needs
-
-mul-row-of : tie.Need-mul-row-of Inv-loop μ-loop
-mul-row-of c = search needs
-
-element-copy-out-row-of : tie.Need-element-copy-out-row-of Inv-loop μ-loop
-element-copy-out-row-of c = search needs
-
-row-of-requires : tie.Need-row-of-requires Inv-loop μ-loop
-row-of-requires c κs = search needs
-
-mul-users : tie.Need-mul-users Inv-loop μ-loop
-mul-users c = search needs
-
-add-users : tie.Need-add-users Inv-loop μ-loop
-add-users c = search needs
-
 element-write-users : tie.Need-element-write-users Inv-loop μ-loop
 element-write-users c =
     let w = c .before .before .before .loop in
     let b = c .before .before .before .before in
     omega (arith, c .row-of .ensures .0, place-lt (b .args .rows .now) (w .users) (b .args .k) (getD (b .args .t1 .route) (w .j) 0) (b .pre .0 .1) (b .pre .0 .2) (w .inv .3 .whole))
-
-add-j : tie.Need-add-j Inv-loop μ-loop
-add-j c = search needs
-
-loop-less : tie.Need-loop-less Inv-loop μ-loop
-loop-less c = search needs
 
 loop-again : tie.Need-loop-again Inv-loop μ-loop
 loop-again c =
@@ -75,15 +48,15 @@ mark-route-spec =
     (tie.spec
     Inv-loop
     μ-loop
-    cast-n
-    loop-holds
-    mul-row-of
-    element-copy-out-row-of
-    row-of-requires
-    mul-users
-    add-users
+    (λ c. search needs)
+    (λ c. search needs)
+    (λ c. search needs)
+    (λ c. search needs)
+    (λ c κs. search needs)
+    (λ c. search needs)
+    (λ c. search needs)
     element-write-users
-    add-j
-    loop-less
+    (λ c. search needs)
+    (λ c. search needs)
     loop-again
     returns)

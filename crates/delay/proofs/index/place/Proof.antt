@@ -2,7 +2,7 @@
 use mathlib.Core.Path.{_≡_}
 use Prim.Native.Nat.{_-_, _≤_}
 use native.Mathlib.Omega.{arith}
-use Rattle.delay.specs.Checked.{good-at, count-at}
+use Rattle.delay.specs.AcceptedFlows.{good-at, count-at}
 use Rattle.delay.specs.Index.{PlacedTo}
 use Rattle.delay.specs.IndexPlaces.{placed-flow}
 use borrow.Author.Needs.{needs}
@@ -16,29 +16,14 @@ Inv-loop rows₀ s n k₀ rows k = (k ≤ n) × (n ≤ mostFlows) × PlacedTo s 
 abbrev μ-loop : tie.MeasureT-loop
 μ-loop rows₀ s n k₀ rows k = n - k
 
-cast-n : tie.Need-cast-n Inv-loop μ-loop
-cast-n c = search needs
-
 loop-holds : tie.Need-loop-holds Inv-loop μ-loop
 loop-holds c = (search needs, count-at (c .args .t1) (c .pre .0), c .pre .1)
-
-mul-f : tie.Need-mul-f Inv-loop μ-loop
-mul-f c = search needs
-
-element-copy-out-f : tie.Need-element-copy-out-f Inv-loop μ-loop
-element-copy-out-f c = search needs
 
 place-route-requires : tie.Need-place-route-requires Inv-loop μ-loop
 place-route-requires c κs =
     let w = c .before .before .before .loop in
     let b = c .before .before .before .before in
     (good-at (b .args .t1) (b .pre .0) (w .k) (c .before .before .loop-test .taken) .nodes-le, omega arith, w .inv .2 .placed)
-
-add-k : tie.Need-add-k Inv-loop μ-loop
-add-k c = search needs
-
-loop-less : tie.Need-loop-less Inv-loop μ-loop
-loop-less c = search needs
 
 loop-again : tie.Need-loop-again Inv-loop μ-loop
 loop-again c =
@@ -57,12 +42,12 @@ place-spec =
     (tie.spec
     Inv-loop
     μ-loop
-    cast-n
+    (λ c. search needs)
     loop-holds
-    mul-f
-    element-copy-out-f
+    (λ c. search needs)
+    (λ c. search needs)
     place-route-requires
-    add-k
-    loop-less
+    (λ c. search needs)
+    (λ c. search needs)
     loop-again
     returns)

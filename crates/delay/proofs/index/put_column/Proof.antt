@@ -18,31 +18,10 @@ abbrev μ-loop : tie.MeasureT-loop
 loop-holds : tie.Need-loop-holds Inv-loop μ-loop
 loop-holds c = (search needs, column-start _ _ _ (c .pre .3))
 
-element-copy-out-times : tie.Need-element-copy-out-times Inv-loop μ-loop
-element-copy-out-times c = search needs
-
 times-requires : tie.Need-times-requires Inv-loop μ-loop
 times-requires c κs =
     let b = c .before .before .before in
     (b .pre .2, b .pre .4 (c .before .before .loop .k))
-
-mul-t : tie.Need-mul-t Inv-loop μ-loop
-mul-t c = search needs
-
-add-t : tie.Need-add-t Inv-loop μ-loop
-add-t c = search needs
-
-mul-t-2 : tie.Need-mul-t-2 Inv-loop μ-loop
-mul-t-2 c = search needs
-
-element-write-t : tie.Need-element-write-t Inv-loop μ-loop
-element-write-t c = search needs
-
-add-k : tie.Need-add-k Inv-loop μ-loop
-add-k c = search needs
-
-loop-less : tie.Need-loop-less Inv-loop μ-loop
-loop-less c = search needs
 
 loop-again : tie.Need-loop-again Inv-loop μ-loop
 loop-again c =
@@ -63,13 +42,13 @@ put-column-spec =
     Inv-loop
     μ-loop
     loop-holds
-    element-copy-out-times
+    (λ c. search needs)
     times-requires
-    mul-t
-    add-t
-    mul-t-2
-    element-write-t
-    add-k
-    loop-less
+    (λ c. search needs)
+    (λ c. search needs)
+    (λ c. search needs)
+    (λ c. search needs)
+    (λ c. search needs)
+    (λ c. search needs)
     loop-again
     returns)

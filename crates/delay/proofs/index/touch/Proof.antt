@@ -18,36 +18,6 @@ Inv-loop rows users touched₀ l n i₀ touched i = (i ≤ n) × (n ≡ links l)
 abbrev μ-loop : tie.MeasureT-loop
 μ-loop rows users touched₀ l n i₀ touched i = n - i
 
-links-requires : tie.Need-links-requires Inv-loop μ-loop
-links-requires c κs = search needs
-
-cast-n : tie.Need-cast-n Inv-loop μ-loop
-cast-n c = search needs
-
-loop-holds : tie.Need-loop-holds Inv-loop μ-loop
-loop-holds c = search needs
-
-mul-row-of : tie.Need-mul-row-of Inv-loop μ-loop
-mul-row-of c = search needs
-
-element-copy-out-row-of : tie.Need-element-copy-out-row-of Inv-loop μ-loop
-element-copy-out-row-of c = search needs
-
-row-of-requires : tie.Need-row-of-requires Inv-loop μ-loop
-row-of-requires c κs = search needs
-
-add-row-of : tie.Need-add-row-of Inv-loop μ-loop
-add-row-of c = search needs
-
-mul-row-of-2 : tie.Need-mul-row-of-2 Inv-loop μ-loop
-mul-row-of-2 c = search needs
-
-element-copy-out-row-of-2 : tie.Need-element-copy-out-row-of-2 Inv-loop μ-loop
-element-copy-out-row-of-2 c = search needs
-
-row-of-requires-2 : tie.Need-row-of-requires-2 Inv-loop μ-loop
-row-of-requires-2 c κs = search needs
-
 add-link-requires : tie.Need-add-link-requires Inv-loop μ-loop
 add-link-requires c κs =
     let w = c .before .before .before .before .before .before .loop in
@@ -56,12 +26,6 @@ add-link-requires c κs =
     let x = le-trans (le-of-eq (c .before .before .before .row-of .ensures .0)) (o .below _) in
     let y = le-trans (le-of-eq (c .before .row-of2 .ensures .0)) (o .below _) in
     ((x, y, w .inv .3 .whole), (b .pre .0 .3, met-small _ _ _ (w .i) mostLinks _ (omega arith) (w .inv .3)))
-
-add-i : tie.Need-add-i Inv-loop μ-loop
-add-i c = search needs
-
-loop-less : tie.Need-loop-less Inv-loop μ-loop
-loop-less c = search needs
 
 loop-again : tie.Need-loop-again Inv-loop μ-loop
 loop-again c =
@@ -87,18 +51,18 @@ touch-spec =
     (tie.spec
     Inv-loop
     μ-loop
-    links-requires
-    cast-n
-    loop-holds
-    mul-row-of
-    element-copy-out-row-of
-    row-of-requires
-    add-row-of
-    mul-row-of-2
-    element-copy-out-row-of-2
-    row-of-requires-2
+    (λ c κs. search needs)
+    (λ c. search needs)
+    (λ c. search needs)
+    (λ c. search needs)
+    (λ c. search needs)
+    (λ c κs. search needs)
+    (λ c. search needs)
+    (λ c. search needs)
+    (λ c. search needs)
+    (λ c κs. search needs)
     add-link-requires
-    add-i
-    loop-less
+    (λ c. search needs)
+    (λ c. search needs)
     loop-again
     returns)

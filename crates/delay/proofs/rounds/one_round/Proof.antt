@@ -3,27 +3,21 @@ use mathlib.Core.Path.{_≡_}
 use Prim.Native.Nat.{_-_, _≤_, _<_}
 use native.Mathlib.Omega.{arith}
 use lib.ListN.{getD}
-use Rattle.delay.specs.Tables.{tablesOf}
-use Rattle.delay.specs.RoundTurns.{Underway, underway-start, underway-done, underway-falls, underway-stays}
+use Rattle.delay.specs.DelayTables.{tablesOf}
+use Rattle.delay.specs.OneRound.{RoundUnderway, underway-start, underway-done, underway-falls, underway-stays}
 use borrow.Author.Needs.{needs}
 use Rattle.delay.proofs.rounds.one_round.Statement.{statement}
 use Rattle.delay.proofs.rounds.one_round.Tie as tie
 
 abbrev Inv-loop : tie.InvT-loop
-Inv-loop n m conflict remainder work deadline whole-conflict whole-work list gone₀ changed₀ k₀ gone changed k =
-    (k ≤ n) × Underway (tablesOf conflict remainder work deadline whole-conflict whole-work) n m list gone k changed
+Inv-loop n m conflict remainder work deadline whole-conflict whole-work list slack₀ changed₀ k₀ slack changed k =
+    (k ≤ n) × RoundUnderway deadline (tablesOf conflict remainder work whole-conflict whole-work) n m list slack k changed
 
 abbrev μ-loop : tie.MeasureT-loop
-μ-loop n m conflict remainder work deadline whole-conflict whole-work list gone₀ changed₀ k₀ gone changed k = n - k
+μ-loop n m conflict remainder work deadline whole-conflict whole-work list slack₀ changed₀ k₀ slack changed k = n - k
 
 loop-holds : tie.Need-loop-holds Inv-loop μ-loop
-loop-holds c = (search needs, underway-start _ _ _ _ (search needs) (c .pre .0 .2))
-
-mul-old : tie.Need-mul-old Inv-loop μ-loop
-mul-old c = search needs
-
-array-read-old : tie.Need-array-read-old Inv-loop μ-loop
-array-read-old c = search needs
+loop-holds c = (search needs, underway-start _ _ _ _ _ (search needs) (c .pre .0 .2))
 
 value-requires : tie.Need-value-requires Inv-loop μ-loop
 value-requires c κs =
@@ -31,42 +25,15 @@ value-requires c κs =
     let h = c .before .loop-test .taken in
     ((omega arith, b .pre .0 .1), b .pre .1 _ (c .before .before .loop .k) h)
 
-mul-fall : tie.Need-mul-fall Inv-loop μ-loop
-mul-fall c = search needs
-
-element-copy-out-fall : tie.Need-element-copy-out-fall Inv-loop μ-loop
-element-copy-out-fall c = search needs
-
-fall-requires : tie.Need-fall-requires Inv-loop μ-loop
-fall-requires c κs = search needs
-
-mul-gone : tie.Need-mul-gone Inv-loop μ-loop
-mul-gone c = search needs
-
-array-write-gone : tie.Need-array-write-gone Inv-loop μ-loop
-array-write-gone c = search needs
-
-add-k : tie.Need-add-k Inv-loop μ-loop
-add-k c = search needs
-
-loop-less : tie.Need-loop-less Inv-loop μ-loop
-loop-less c = search needs
-
 loop-again : tie.Need-loop-again Inv-loop μ-loop
 loop-again c =
     let w = c .before .before .before .before .before .before .loop in
     let b = c .before .before .before .before .before .before .before in
     let h = c .before .before .before .before .before .loop-test .taken in
     let x = c .before .before .before .value in
-    let f = c .before .fall .ensures in
+    let f = c .before .deadline-less-value .ensures in
     let i : getD (b .args .t9) (w .k) 0 < getD (b .args .deadline .now) (w .k) 0 - x .result = rw (← f) (c .if1 .taken) in
-    (search needs, rw f (underway-falls _ _ _ _ _ (w .k) _ (w .inv .1) h (b .pre .0 .0) (x .result) (x .ensures .0) i))
-
-add-k-2 : tie.Need-add-k-2 Inv-loop μ-loop
-add-k-2 c = search needs
-
-loop-less-2 : tie.Need-loop-less-2 Inv-loop μ-loop
-loop-less-2 c = search needs
+    (search needs, rw f (underway-falls _ _ _ _ _ _ (w .k) _ (w .inv .1) h (b .pre .0 .0) (x .result) (x .ensures .0) i))
 
 loop-again-2 : tie.Need-loop-again-2 Inv-loop μ-loop
 loop-again-2 c =
@@ -74,15 +41,15 @@ loop-again-2 c =
     let b = c .before .before .before .before .before .before .before in
     let h = c .before .before .before .before .before .loop-test .taken in
     let x = c .before .before .before .value in
-    let f = c .before .fall .ensures in
+    let f = c .before .deadline-less-value .ensures in
     let i : getD (b .args .deadline .now) (w .k) 0 - x .result ≤ getD (b .args .t9) (w .k) 0 = rw (← f) (c .if1 .left) in
-    (search needs, underway-stays _ _ _ _ _ (w .k) _ (w .inv .1) h (b .pre .0 .0) (x .result) (x .ensures .0) i)
+    (search needs, underway-stays _ _ _ _ _ _ (w .k) _ (w .inv .1) h (b .pre .0 .0) (x .result) (x .ensures .0) i)
 
 returns : tie.Need-returns Inv-loop μ-loop
 returns c =
     let w = c .before .loop in
     let e : w .k ≡ c .before .before .args .n = omega arith in
-    (underway-done _ _ _ _ _ _ (rw e at (w .inv .1)), w .inv .1 .below)
+    (underway-done _ _ _ _ _ _ _ (rw e at (w .inv .1)), w .inv .1 .below)
 
 pub one-round-spec : {M : Type 1} → statement M
 one-round-spec =
@@ -91,18 +58,18 @@ one-round-spec =
     Inv-loop
     μ-loop
     loop-holds
-    mul-old
-    array-read-old
+    (λ c. search needs)
+    (λ c. search needs)
     value-requires
-    mul-fall
-    element-copy-out-fall
-    fall-requires
-    mul-gone
-    array-write-gone
-    add-k
-    loop-less
+    (λ c. search needs)
+    (λ c. search needs)
+    (λ c κs. search needs)
+    (λ c. search needs)
+    (λ c. search needs)
+    (λ c. search needs)
+    (λ c. search needs)
     loop-again
-    add-k-2
-    loop-less-2
+    (λ c. search needs)
+    (λ c. search needs)
     loop-again-2
     returns)

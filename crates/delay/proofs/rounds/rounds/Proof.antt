@@ -6,19 +6,19 @@ use native.Mathlib.Omega.{arith}
 use Rattle.model.specs.Sets.{used}
 use Rattle.document.specs.Delay.{mostRounds}
 use Rattle.laws.specs.Rounds.{accepted-fits}
-use Rattle.delay.specs.Carry.{fits-carried}
-use Rattle.delay.specs.Steps.{leftOf, Below, Going}
-use Rattle.delay.specs.RoundsGoing.{going-start, going-next, most-small, deadlines-carried, none-gone}
-use Rattle.delay.specs.Checked.{ones-pos}
+use Rattle.delay.specs.EquationValues.{sums-fit-carried}
+use Rattle.delay.specs.OneRound.{listOfSlack, SlackWithin}
+use Rattle.delay.specs.RoundsReached.{RoundsGoing, going-start, going-next, most-small, deadlines-carried, zero-slack}
+use Rattle.laws.specs.Accepted.{ones-pos}
 use borrow.Author.Needs.{needs}
 use Rattle.delay.proofs.rounds.rounds.Statement.{statement}
 use Rattle.delay.proofs.rounds.rounds.Tie as tie
 
 abbrev Inv-loop : tie.InvT-loop
-Inv-loop s conflict remainder work deadline whole-conflict whole-work m gone₀ count₀ going₀ gone count going = Below deadline gone (s .count) × Going (used s) going count (leftOf deadline gone (s .count))
+Inv-loop s conflict remainder work deadline whole-conflict whole-work m slack₀ count₀ going₀ slack count going = SlackWithin deadline slack (s .count) × RoundsGoing (used s) going count (listOfSlack deadline slack (s .count))
 
 abbrev μ-loop : tie.MeasureT-loop
-μ-loop s conflict remainder work deadline whole-conflict whole-work m gone₀ count₀ going₀ gone count going = mostRounds (used s) - count
+μ-loop s conflict remainder work deadline whole-conflict whole-work m slack₀ count₀ going₀ slack count going = mostRounds (used s) - count
 
 -- where the function began, and where the turn did
 abbrev start : (c : tie.At-loop Inv-loop μ-loop) → tie.Start Inv-loop μ-loop
@@ -29,21 +29,15 @@ turn c = c .before .before .before
 
 -- in a turn the rounds go on
 still : (c : tie.In-loop Inv-loop μ-loop)
-    → Going (used (start (c .before) .args .s)) true (c .before .loop .count) (leftOf (start (c .before) .args .deadline .now) (c .before .loop .gone) (start (c .before) .args .s .count))
+    → RoundsGoing (used (start (c .before) .args .s)) true (c .before .loop .count) (listOfSlack (start (c .before) .args .deadline .now) (c .before .loop .slack) (start (c .before) .args .s .count))
 still c = rw (c .loop-test .taken) at (c .before .loop .inv .1)
-
-ways-requires : tie.Need-ways-requires Inv-loop μ-loop
-ways-requires c κs = search needs
 
 loop-holds : tie.Need-loop-holds Inv-loop μ-loop
 unfolding used
 loop-holds c =
     let b = c .before in
     let u = used (b .args .s) in
-    (none-gone (b .args .deadline .now) (b .args .s .count), rw (deadlines-carried u (b .args .deadline .now) (b .pre .1 .deadlines)) (going-start u))
-
-cast-one-round : tie.Need-cast-one-round Inv-loop μ-loop
-cast-one-round c = search needs
+    (zero-slack (b .args .deadline .now) (b .args .s .count), rw (deadlines-carried u (b .args .deadline .now) (b .pre .1 .1 .entries)) (going-start u))
 
 one-round-requires : tie.Need-one-round-requires Inv-loop μ-loop
 unfolding used
@@ -52,14 +46,14 @@ one-round-requires c κs =
     let b = start w in
     let a = b .pre .0 in
     let m : 0 < w .before .ways .result = omega (arith, ones-pos (b .args .s .map .0) (a .some-channel)) in
-    ((a .count-le, m, w .loop .inv .0), fits-carried (used (b .args .s)) (a .count-le) _ (b .pre .1))
+    ((a .count-le, m, w .loop .inv .0), sums-fit-carried (used (b .args .s)) (a .count-le) _ (b .pre .1 .0))
 
 add-count : tie.Need-add-count Inv-loop μ-loop
 unfolding used
 add-count c =
     let i = turn c in
     let b = start (i .before) in
-    omega (arith, still i .1, most-small (used (b .args .s)) (b .pre .0 .count-le) (b .pre .1 .deadlines-le))
+    omega (arith, still i .1, most-small (used (b .args .s)) (b .pre .0 .count-le) (b .pre .1 .1 .small))
 
 loop-less : tie.Need-loop-less Inv-loop μ-loop
 unfolding used
@@ -73,14 +67,14 @@ loop-again c =
     let a = b .pre .0 in
     let u = used (b .args .s) in
     let r = c .before .one-round .ensures in
-    (r .1, going-next u (accepted-fits u a) (i .before .loop .count) _ _ _ (still i) (r .0 u record { tables = b .pre .1; count = refl; channels = sym (i .before .before .ways .ensures); most = a .count-le }))
+    (r .1, going-next u (accepted-fits u a) (i .before .loop .count) _ _ _ (still i) (r .0 u record { tables = b .pre .1 .0; deadlines = b .pre .1 .1 .entries; count = refl; channels = sym (i .before .before .ways .ensures); most = a .count-le }))
 
 returns : tie.Need-returns Inv-loop μ-loop
 unfolding used
 returns c =
     let b = c .before in
     let s = start b .args in
-    let g : Going (used (s .s)) false (b .loop .count) (leftOf (s .deadline .now) (b .loop .gone) (s .s .count)) = rw (c .loop-test .left) at (b .loop .inv .1) in
+    let g : RoundsGoing (used (s .s)) false (b .loop .count) (listOfSlack (s .deadline .now) (b .loop .slack) (s .s .count)) = rw (c .loop-test .left) at (b .loop .inv .1) in
     ((sym (g .2), sym (g .1)), b .loop .inv .0)
 
 pub rounds-spec : {M : Type 1} → statement M
@@ -89,9 +83,9 @@ rounds-spec =
     (tie.spec
     Inv-loop
     μ-loop
-    ways-requires
+    (λ c κs. search needs)
     loop-holds
-    cast-one-round
+    (λ c. search needs)
     one-round-requires
     add-count
     loop-less

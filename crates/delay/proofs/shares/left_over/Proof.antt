@@ -3,11 +3,5 @@ use borrow.Author.Needs.{needs}
 use Rattle.delay.proofs.shares.left_over.Statement.{statement}
 use Rattle.delay.proofs.shares.left_over.Tie as tie
 
-rem-result : tie.Need-rem-result
-rem-result c = search needs
-
-returns : tie.Need-returns
-returns c = search needs
-
 pub left-over-spec : {M : Type 1} → statement M
-left-over-spec = tie.close (tie.spec rem-result returns)
+left-over-spec = tie.close (tie.spec (λ c. search needs) (λ c. search needs))

@@ -3,11 +3,5 @@ use borrow.Author.Needs.{needs}
 use Rattle.delay.proofs.shares.quotient.Statement.{statement}
 use Rattle.delay.proofs.shares.quotient.Tie as tie
 
-div-result : tie.Need-div-result
-div-result c = search needs
-
-returns : tie.Need-returns
-returns c = search needs
-
 pub quotient-spec : {M : Type 1} → statement M
-quotient-spec = tie.close (tie.spec div-result returns)
+quotient-spec = tie.close (tie.spec (λ c. search needs) (λ c. search needs))

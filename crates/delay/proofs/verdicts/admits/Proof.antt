@@ -10,7 +10,7 @@ use Rattle.model.specs.Sums.{allTo}
 use Rattle.model.specs.Sets.{used}
 use Rattle.document.specs.Delay.{deadline, admits}
 use Rattle.laws.specs.Used.{used-flow}
-use Rattle.delay.specs.VerdictParts.{all-zero, all-next}
+use Rattle.delay.specs.VerdictAnswers.{all-zero, all-next}
 use borrow.Author.Needs.{needs}
 use Rattle.model.specs.Limits.{mostFlows}
 use Rattle.delay.proofs.verdicts.admits.Statement.{statement}
@@ -22,35 +22,8 @@ Inv-loop s bound n all₀ k₀ all k = (k ≤ n) × (n ≤ mostFlows) × (all �
 abbrev μ-loop : tie.MeasureT-loop
 μ-loop s bound n all₀ k₀ all k = n - k
 
-cast-n : tie.Need-cast-n Inv-loop μ-loop
-cast-n c = search needs
-
 loop-holds : tie.Need-loop-holds Inv-loop μ-loop
 loop-holds c = (search needs, search needs, sym (all-zero _))
-
-mul-f : tie.Need-mul-f Inv-loop μ-loop
-mul-f c = search needs
-
-element-copy-out-f : tie.Need-element-copy-out-f Inv-loop μ-loop
-element-copy-out-f c = search needs
-
-mul-x : tie.Need-mul-x Inv-loop μ-loop
-mul-x c = search needs
-
-array-read-x : tie.Need-array-read-x Inv-loop μ-loop
-array-read-x c = search needs
-
-keeps-requires : tie.Need-keeps-requires Inv-loop μ-loop
-keeps-requires c κs = search needs
-
-both-requires : tie.Need-both-requires Inv-loop μ-loop
-both-requires c κs = search needs
-
-add-k : tie.Need-add-k Inv-loop μ-loop
-add-k c = search needs
-
-loop-less : tie.Need-loop-less Inv-loop μ-loop
-loop-less c = search needs
 
 loop-again : tie.Need-loop-again Inv-loop μ-loop
 loop-again c =
@@ -73,15 +46,15 @@ admits-spec =
     (tie.spec
     Inv-loop
     μ-loop
-    cast-n
+    (λ c. search needs)
     loop-holds
-    mul-f
-    element-copy-out-f
-    mul-x
-    array-read-x
-    keeps-requires
-    both-requires
-    add-k
-    loop-less
+    (λ c. search needs)
+    (λ c. search needs)
+    (λ c. search needs)
+    (λ c. search needs)
+    (λ c κs. search needs)
+    (λ c κs. search needs)
+    (λ c. search needs)
+    (λ c. search needs)
     loop-again
     returns)

@@ -9,8 +9,8 @@ use Rattle.model.specs.declared.kinds.Flow.{Flow}
 use Rattle.model.specs.Sets.{used, work}
 use Rattle.laws.specs.Accepted.{accepted}
 use Rattle.laws.specs.Used.{used-flow}
-use Rattle.delay.specs.Checked.{count-at}
-use Rattle.delay.specs.VerdictParts.{basic-entry, tight-entry, fault-given, bounds-made}
+use Rattle.delay.specs.AcceptedFlows.{count-at}
+use Rattle.delay.specs.VerdictAnswers.{basic-entry, tight-entry, fault-given, bounds-made}
 use borrow.Author.Needs.{needs}
 use Rattle.model.specs.Limits.{mostFlows}
 use Rattle.delay.proofs.verdicts.bounds_at.Statement.{statement}
@@ -20,26 +20,14 @@ use Rattle.delay.proofs.verdicts.bounds_at.Tie as tie
 within : (c : tie.Start) → c .args .k < mostFlows
 within c = omega (arith, count-at (c .args .t1) (accepted _ (c .pre .0)))
 
-mul-f : tie.Need-mul-f
-mul-f c = search needs
-
 element-copy-out-f : tie.Need-element-copy-out-f
 element-copy-out-f c = within c
-
-mul-basic : tie.Need-mul-basic
-mul-basic c = search needs
 
 element-copy-out-basic : tie.Need-element-copy-out-basic
 element-copy-out-basic c = within (c .before)
 
-mul-tightened : tie.Need-mul-tightened
-mul-tightened c = search needs
-
 element-copy-out-tightened : tie.Need-element-copy-out-tightened
 element-copy-out-tightened c = within (c .before .before)
-
-work-requires : tie.Need-work-requires
-work-requires c κs = search needs
 
 margin-requires : tie.Need-margin-requires
 unfolding used
@@ -68,12 +56,12 @@ pub bounds-at-spec : {M : Type 1} → statement M
 bounds-at-spec =
     tie.close
     (tie.spec
-    mul-f
+    (λ c. search needs)
     element-copy-out-f
-    mul-basic
+    (λ c. search needs)
     element-copy-out-basic
-    mul-tightened
+    (λ c. search needs)
     element-copy-out-tightened
-    work-requires
+    (λ c κs. search needs)
     margin-requires
     returns)

@@ -1,41 +1,32 @@
 -- `bounds_of`: the record's refusal first, then 13, then the bounds. Assumes nothing beyond its `requires`.
-use mathlib.Core.Path.{_≡_, _∙_}
+use mathlib.Core.Path.{_≡_, ap, _∙_}
 use mathlib.Core.Bool.{true}
 use Rattle.model.specs.Refusals.{good}
 use Rattle.document.specs.Reader.{recordFault}
 use Rattle.model.specs.Sets.{used}
-use Rattle.delay.specs.AllBoundsOnce.{bounds-refused, bounds-none, bounds-given}
-use Rattle.delay.specs.VerdictParts.{passed-by, refused-by, fault-refused}
+use Rattle.document.specs.Delay.{refusedBounds}
+use Rattle.delay.specs.VerdictAnswers.{bounds-refused, bounds-none, bounds-given, passed-by, refused-by, fault-refused}
 use borrow.Author.Needs.{needs}
 use Rattle.delay.proofs.verdicts.bounds_of.Statement.{statement}
 use Rattle.delay.proofs.verdicts.bounds_of.Tie as tie
 
 -- past the first test the record check has passed
 passed : (c : tie.Else1) → good (recordFault (used (c .before .before .before .args .s)) .refusal) ≡ true
-passed c = let b = c .before .before .before in passed-by _ (b .args .j) _ (b .pre) (c .before .code .ensures) (c .if1 .left)
-
-code-requires : tie.Need-code-requires
-code-requires c κs = search needs
-
-refused-requires : tie.Need-refused-requires
-refused-requires c κs = search needs
+passed c = let b = c .before .before .before in passed-by _ (b .args .all) _ (b .pre) (c .before .refuses .ensures) (c .if1 .left)
 
 returns : tie.Need-returns
 returns c =
     let b = c .before .before .before .before in
     let u = used (b .args .s) in
-    let e = refused-by u (b .args .j) _ (b .pre) (c .before .before .code .ensures) (c .before .if1 .taken) in
-    c .refused .ensures ∙ bounds-refused u (b .args .k) _ e (fault-refused u (b .args .j) (b .pre) e)
-
-refused-requires-2 : tie.Need-refused-requires-2
-refused-requires-2 c κs = search needs
+    let e = refused-by u (b .args .all) _ (b .pre) (c .before .before .refuses .ensures) (c .before .if1 .taken) in
+    c .refused .ensures ∙ bounds-refused u (b .args .k) _ e (fault-refused u (b .args .all) (b .pre) e)
 
 returns-2 : tie.Need-returns-2
 unfolding used
 returns-2 c =
-    let e = c .before .before .before in
+    let e = c .before .before .before .before in
     let a = e .before .before .before .args in
-    c .refused2 .ensures ∙ bounds-none (used (a .s)) (a .k) (passed e) (c .before .if2 .taken)
+    c .refused2 .ensures ∙ ap refusedBounds (c .before .of .ensures) ∙ bounds-none (used (a .s)) (a .k) (passed e) (c .before .before .if2 .taken)
 
 bounds-at-requires : tie.Need-bounds-at-requires
 bounds-at-requires c κs =
@@ -53,10 +44,11 @@ pub bounds-of-spec : {M : Type 1} → statement M
 bounds-of-spec =
     tie.close
     (tie.spec
-    code-requires
-    refused-requires
+    (λ c κs. search needs)
+    (λ c κs. search needs)
     returns
-    refused-requires-2
+    (λ c κs. search needs)
+    (λ c κs. search needs)
     returns-2
     bounds-at-requires
     returns-3)

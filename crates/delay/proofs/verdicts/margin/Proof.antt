@@ -28,12 +28,6 @@ read-back d b h l = ap₂ _-ℤ_ (toZ-pos w32 d (omega arith)) (toZ-pos w32 b (o
 fits : (d b : ℕ) → d ≤ 272691135 → b ≤ 272691135 → SFits w32 (toZ w32 d -ℤ toZ w32 b)
 fits d b h l = rw (read-back d b h l) (difference-fits d b h l)
 
-cast-result : tie.Need-cast-result
-cast-result c = search needs
-
-cast-result-2 : tie.Need-cast-result-2
-cast-result-2 c = search needs
-
 sub-result : tie.Need-sub-result
 sub-result c = fits (c .args .deadline) (c .args .bound) (search needs) (c .pre)
 
@@ -43,4 +37,4 @@ returns c =
     toZ-ofZ w32 _ (sub-result c) ∙ read-back (c .args .deadline) (c .args .bound) h (c .pre)
 
 pub margin-spec : {M : Type 1} → statement M
-margin-spec = tie.close (tie.spec cast-result cast-result-2 sub-result returns)
+margin-spec = tie.close (tie.spec (λ c. search needs) (λ c. search needs) sub-result returns)

@@ -1,26 +1,23 @@
--- `verdict_of`: the bounds of all flows are judged against the deadlines. Assumes nothing beyond its `requires`.
+-- `verdict_of`: the bounds of all flows are compared with the deadlines. Assumes nothing beyond its `requires`.
 use mathlib.Core.Path.{_≡_}
 use mathlib.Core.Bool.{true}
 use Rattle.model.specs.Refusals.{good}
 use Rattle.document.specs.Reader.{recordFault}
 use Rattle.model.specs.Sets.{used}
 use Rattle.laws.specs.Accepted.{accepted}
-use Rattle.delay.specs.VerdictParts.{verdict-made, verdict-refused, passed-by, refused-by}
+use Rattle.delay.specs.VerdictAnswers.{verdict-made, verdict-refused, passed-by, refused-by}
 use borrow.Author.Needs.{needs}
 use Rattle.delay.proofs.verdicts.verdict_of.Statement.{statement}
 use Rattle.delay.proofs.verdicts.verdict_of.Tie as tie
 
 -- past the test the record check has passed
 passed : (c : tie.Else1) → good (recordFault (used (c .before .before .before .args .s)) .refusal) ≡ true
-passed c = let b = c .before .before .before in passed-by _ (b .args .j) _ (b .pre) (c .before .code .ensures) (c .if1 .left)
-
-code-requires : tie.Need-code-requires
-code-requires c κs = search needs
+passed c = let b = c .before .before .before in passed-by _ (b .args .all) _ (b .pre) (c .before .refuses .ensures) (c .if1 .left)
 
 returns : tie.Need-returns
 returns c =
     let b = c .before .before .before in
-    verdict-refused _ (b .args .j) (b .pre) (refused-by _ (b .args .j) _ (b .pre) (c .before .code .ensures) (c .if1 .taken))
+    verdict-refused _ (b .args .all) (b .pre) (refused-by _ (b .args .all) _ (b .pre) (c .before .refuses .ensures) (c .if1 .taken))
 
 admits-requires : tie.Need-admits-requires
 unfolding used
@@ -35,13 +32,13 @@ unfolding used
 returns-2 c =
     let e = c .before .before .before .before in
     let b = e .before .before .before in
-    verdict-made _ (b .args .j) _ _ (b .pre) (passed e) (c .before .admits .ensures) (c .admits2 .ensures)
+    verdict-made _ (b .args .all) _ _ (b .pre) (passed e) (c .before .admits .ensures) (c .admits2 .ensures)
 
 pub verdict-of-spec : {M : Type 1} → statement M
 verdict-of-spec =
     tie.close
     (tie.spec
-    code-requires
+    (λ c κs. search needs)
     returns
     admits-requires
     admits-requires-2

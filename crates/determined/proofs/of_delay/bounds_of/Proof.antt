@@ -1,3 +1,4 @@
+-- Two results of one contract are equal, since the contract is an equation. Assumes nothing.
 use mathlib.Core.Path.{_∙_, sym}
 use Rattle.determined.proofs.of_delay.bounds_of.Statement.{statement}
 use Rattle.determined.proofs.of_delay.bounds_of.Tie as tie

@@ -1,3 +1,4 @@
+-- Two results of one contract are equal, since the contract is an equation. Assumes nothing.
 use mathlib.Core.Path.{_∙_, sym}
 use Rattle.determined.proofs.of_machine.step_accepted.Statement.{statement}
 use Rattle.determined.proofs.of_machine.step_accepted.Tie as tie

@@ -1,3 +1,4 @@
+-- Two results of one contract are equal, and so is the lent memory, since each clause of the contract is an equation. Assumes nothing.
 use mathlib.Core.Path.{_∙_, ap, sym}
 use mathlib.Core.List.{List}
 use Prim.Native.Nat.{ℕ}
@@ -6,12 +7,6 @@ use Prim.{tt}
 use Rattle.determined.proofs.of_plan_text.plan.Statement.{statement}
 use Rattle.document.specs.Program.{planAnswer, planInto}
 use Rattle.determined.proofs.of_plan_text.plan.Tie as tie
-
-plan-requires : tie.Need-plan-requires
-plan-requires c κs = tt
-
-plan-requires-2 : tie.Need-plan-requires-2
-plan-requires-2 c κs = tt
 
 same-length : tie.Need-same-length
 same-length c = c .before .before .before .before .before .before .plan .kept .1 .0
@@ -32,4 +27,4 @@ returns c = λ same.
     )
 
 pub plan-spec : {M : Type 1} → statement M
-plan-spec = tie.close (tie.spec plan-requires plan-requires-2 same-length same-length-2 returns)
+plan-spec = tie.close (tie.spec (λ c κs. tt) (λ c κs. tt) same-length same-length-2 returns)

@@ -1,3 +1,4 @@
+-- Two results of one contract are equal, and so is the lent memory, since each clause of the contract is an equation. Assumes nothing.
 use mathlib.Core.Path.{_∙_, ap₂, sym}
 use mathlib.Core.List.{List}
 use Prim.Native.Nat.{ℕ}
@@ -9,29 +10,29 @@ use Rattle.determined.proofs.of_planner.rembasuk_slot.Statement.{statem
 use Rattle.document.specs.ForC.{slotForC}
 use Rattle.determined.proofs.of_planner.rembasuk_slot.Tie as tie
 
-rembasuk-slot-requires : tie.Need-rembasuk-slot-requires
-rembasuk-slot-requires c κs = tt
-
-rembasuk-slot-requires-2 : tie.Need-rembasuk-slot-requires-2
-rembasuk-slot-requires-2 c κs = tt
-
 same-length : tie.Need-same-length
-same-length c = c .before .before .before .before .before .before .before .before .before .before .before .rembasuk-slot .kept .1 .0
+same-length c =
+    let lent = c .before .before .before .before .before .before in
+    lent .before .before .before .before .before .rembasuk-slot .kept .1 .0
 
 same-length-2 : tie.Need-same-length-2
 same-length-2 c = c .before .before .before .before .rembasuk-slot2 .kept .1 .0
 
 same-length-3 : tie.Need-same-length-3
-same-length-3 c = c .before .before .before .before .before .before .before .before .before .before .before .rembasuk-slot .kept .1 .1 .0
+same-length-3 c =
+    let lent = c .before .before .before .before .before .before in
+    lent .before .before .before .before .before .rembasuk-slot .kept .1 .1 .0
 
 same-length-4 : tie.Need-same-length-4
 same-length-4 c = c .before .before .before .before .rembasuk-slot2 .kept .1 .1 .0
 
 returns : tie.Need-returns
 returns c = λ same.
-    let one = c .before .before .before .before .before .before .before .before .before .before .before in
     let two = c .before .before .before .before in
-    let start = one .before .before .before .before .before .before .before .before in
+    let lent = two .before .before .before .before in
+    let one = lent .before .before .before in
+    let entered = one .before .before .before .before in
+    let start = entered .before .before .before .before in
     let a = one .rembasuk-slot .ensures in
     let b = two .rembasuk-slot2 .ensures in
     let t = start .args .text .now in (
@@ -44,8 +45,8 @@ pub rembasuk-slot-spec : {M : Type 1} → statement M
 rembasuk-slot-spec =
     tie.close
     (tie.spec
-    rembasuk-slot-requires
-    rembasuk-slot-requires-2
+    (λ c κs. tt)
+    (λ c κs. tt)
     same-length
     same-length-2
     same-length-3

@@ -1,16 +1,11 @@
+-- Two results of one contract are equal, since the contract is an equation. Assumes nothing.
 use mathlib.Core.Path.{_∙_, sym}
 use Prim.{tt}
 use Rattle.determined.proofs.of_probe.probe_bounds.Statement.{statement}
 use Rattle.determined.proofs.of_probe.probe_bounds.Tie as tie
 
-probe-bounds-requires : tie.Need-probe-bounds-requires
-probe-bounds-requires c κs = tt
-
-probe-bounds-requires-2 : tie.Need-probe-bounds-requires-2
-probe-bounds-requires-2 c κs = tt
-
 returns : tie.Need-returns
 returns c = c .before .probe-bounds .ensures ∙ sym (c .probe-bounds2 .ensures)
 
 pub probe-bounds-spec : {M : Type 1} → statement M
-probe-bounds-spec = tie.close (tie.spec probe-bounds-requires probe-bounds-requires-2 returns)
+probe-bounds-spec = tie.close (tie.spec (λ c κs. tt) (λ c κs. tt) returns)

@@ -1,18 +1,13 @@
+-- Two results of one contract are equal, and so is the lent memory, since each clause of the contract is an equation. Assumes nothing.
 use mathlib.Core.Path.{_∙_, ap, sym}
 use mathlib.Core.List.{List}
 use Prim.Native.Nat.{ℕ}
 use lib.ListN.{length}
-use Rattle.probe.specs.Told.{toldWritten}
+use Rattle.document.specs.ForC.{slotNumbers}
 use Prim.{tt}
 use Rattle.determined.proofs.of_probe.probe_plan.Statement.{statement}
 use Rattle.document.specs.Program.{planAnswer, planInto}
 use Rattle.determined.proofs.of_probe.probe_plan.Tie as tie
-
-probe-plan-requires : tie.Need-probe-plan-requires
-probe-plan-requires c κs = tt
-
-probe-plan-requires-2 : tie.Need-probe-plan-requires-2
-probe-plan-requires-2 c κs = tt
 
 same-length : tie.Need-same-length
 same-length c = c .before .before .before .before .before .before .probe-plan .kept .1 .0
@@ -28,11 +23,11 @@ returns c = λ same.
     let a = one .probe-plan .ensures in
     let b = two .probe-plan2 .ensures in
     let t = start .args .input .now in (
-      a .0 ∙ ap (λ (o : List ℕ). toldWritten (planAnswer t (length o))) same ∙ sym (b .0),
+      a .0 ∙ ap (λ (o : List ℕ). slotNumbers (planAnswer t (length o))) same ∙ sym (b .0),
       a .1 ∙ ap (planInto t) same ∙ sym (b .1),
     )
 
 pub probe-plan-spec : {M : Type 1} → statement M
 probe-plan-spec =
     tie.close
-    (tie.spec probe-plan-requires probe-plan-requires-2 same-length same-length-2 returns)
+    (tie.spec (λ c κs. tt) (λ c κs. tt) same-length same-length-2 returns)

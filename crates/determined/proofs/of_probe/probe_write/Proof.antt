@@ -1,19 +1,14 @@
+-- Two results of one contract are equal, and so is the lent memory, since each clause of the contract is an equation. Assumes nothing.
 use mathlib.Core.Path.{_∙_, ap, sym}
 use mathlib.Core.List.{List}
 use Prim.Native.Nat.{ℕ}
 use lib.ListN.{length}
 use Rattle.document.specs.Reader.{writeAnswer, writeInto}
 use Rattle.model.specs.Sets.{used}
-use Rattle.probe.specs.Told.{toldWritten}
+use Rattle.document.specs.ForC.{slotNumbers}
 use Prim.{tt}
 use Rattle.determined.proofs.of_probe.probe_write.Statement.{statement}
 use Rattle.determined.proofs.of_probe.probe_write.Tie as tie
-
-probe-write-requires : tie.Need-probe-write-requires
-probe-write-requires c κs = tt
-
-probe-write-requires-2 : tie.Need-probe-write-requires-2
-probe-write-requires-2 c κs = tt
 
 same-length : tie.Need-same-length
 same-length c = c .before .before .before .before .before .before .probe-write .kept .1 .0
@@ -29,11 +24,11 @@ returns c = λ same.
     let a = one .probe-write .ensures in
     let b = two .probe-write2 .ensures in
     let s = used (start .args .s) in (
-      a .0 ∙ ap (λ (o : List ℕ). toldWritten (writeAnswer s (length o))) same ∙ sym (b .0),
+      a .0 ∙ ap (λ (o : List ℕ). slotNumbers (writeAnswer s (length o))) same ∙ sym (b .0),
       a .1 ∙ ap (writeInto s) same ∙ sym (b .1),
     )
 
 pub probe-write-spec : {M : Type 1} → statement M
 probe-write-spec =
     tie.close
-    (tie.spec probe-write-requires probe-write-requires-2 same-length same-length-2 returns)
+    (tie.spec (λ c κs. tt) (λ c κs. tt) same-length same-length-2 returns)

@@ -1,3 +1,4 @@
+-- Two results of one contract are equal, and so is the lent memory, since each clause of the contract is an equation. Assumes nothing.
 use mathlib.Core.Path.{_∙_, ap, sym}
 use mathlib.Core.List.{List}
 use Prim.Native.Nat.{ℕ}
@@ -7,12 +8,6 @@ use Rattle.model.specs.Sets.{used}
 use Prim.{tt}
 use Rattle.determined.proofs.of_text.write.Statement.{statement}
 use Rattle.determined.proofs.of_text.write.Tie as tie
-
-write-requires : tie.Need-write-requires
-write-requires c κs = tt
-
-write-requires-2 : tie.Need-write-requires-2
-write-requires-2 c κs = tt
 
 same-length : tie.Need-same-length
 same-length c = c .before .before .before .before .before .before .write .kept .1 .0
@@ -29,8 +24,8 @@ returns c = λ same.
     let b = two .write2 .ensures in
     let s = used (start .args .s) in (
       a .0 ∙ ap (λ (o : List ℕ). writeAnswer s (length o)) same ∙ sym (b .0),
-      a .1 ∙ ap (writeInto s) same ∙ sym (b .1),
+      a .1 .0 ∙ ap (writeInto s) same ∙ sym (b .1 .0),
     )
 
 pub write-spec : {M : Type 1} → statement M
-write-spec = tie.close (tie.spec write-requires write-requires-2 same-length same-length-2 returns)
+write-spec = tie.close (tie.spec (λ c κs. tt) (λ c κs. tt) same-length same-length-2 returns)

@@ -1,6 +1,6 @@
 -- `restart` gives what each flow's packet has had in turn. Assumes nothing.
-use Rattle.machine.specs.Dues.{hadIn, sum-fits}
-use Rattle.machine.specs.Lists.{Through, through-none, through-next}
+use Rattle.machine.specs.PacketNumbers.{hadIn, sum-fits}
+use Rattle.machine.specs.ArrayLists.{Through, through-none, through-next}
 use lib.ListN.{getD}
 use native.Mathlib.Nat.{le-refl}
 use native.Mathlib.Omega.{arith}
@@ -21,33 +21,6 @@ abbrev μ-loop : tie.MeasureT-loop
 
 loop-holds : tie.Need-loop-holds Inv-loop μ-loop
 loop-holds c = (search needs, through-none _ _)
-
-mul-t9 : tie.Need-mul-t9 Inv-loop μ-loop
-mul-t9 c = search needs
-
-element-copy-out-t12 : tie.Need-element-copy-out-t12 Inv-loop μ-loop
-element-copy-out-t12 c = search needs
-
-mul-t14 : tie.Need-mul-t14 Inv-loop μ-loop
-mul-t14 c = search needs
-
-element-copy-out-t17 : tie.Need-element-copy-out-t17 Inv-loop μ-loop
-element-copy-out-t17 c = search needs
-
-element-copy-out-had-of : tie.Need-element-copy-out-had-of Inv-loop μ-loop
-element-copy-out-had-of c = search needs
-
-had-of-requires : tie.Need-had-of-requires Inv-loop μ-loop
-had-of-requires c κs = tt
-
-element-write-sent : tie.Need-element-write-sent Inv-loop μ-loop
-element-write-sent c = search needs
-
-add-k : tie.Need-add-k Inv-loop μ-loop
-add-k c = search needs
-
-loop-less : tie.Need-loop-less Inv-loop μ-loop
-loop-less c = search needs
 
 loop-again : tie.Need-loop-again Inv-loop μ-loop
 loop-again c =
@@ -73,14 +46,14 @@ restart-spec =
     Inv-loop
     μ-loop
     loop-holds
-    mul-t9
-    element-copy-out-t12
-    mul-t14
-    element-copy-out-t17
-    element-copy-out-had-of
-    had-of-requires
-    element-write-sent
-    add-k
-    loop-less
+    (λ c. search needs)
+    (λ c. search needs)
+    (λ c. search needs)
+    (λ c. search needs)
+    (λ c. search needs)
+    (λ c κs. tt)
+    (λ c. search needs)
+    (λ c. search needs)
+    (λ c. search needs)
     loop-again
     returns)

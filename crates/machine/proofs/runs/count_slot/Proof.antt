@@ -1,6 +1,6 @@
 -- `count_slot` chooses and counts what was chosen. Assumes nothing.
-use Rattle.machine.specs.Lists.{getD-zeros}
-use Rattle.machine.specs.Choice.{Choice}
+use Rattle.machine.specs.ArrayLists.{getD-zeros}
+use Rattle.machine.specs.PlacedChoice.{Choice}
 use Rattle.model.specs.Sets.{memb}
 use Rattle.model.specs.Sums.{bit}
 use lib.ListN.{getD}
@@ -27,16 +27,10 @@ choose-requires c κs =
     let p = c .before .before .before .pre in
     ((p .0 .1, p .0 .3, p .0 .4, refl, refl), (getD-zeros mostFlows, (p .1 .0, p .1 .1 .1)))
 
-tally-requires : tie.Need-tally-requires
-tally-requires c κs =
+count-and-advance-requires : tie.Need-count-and-advance-requires
+count-and-advance-requires c κs =
     let p = c .before .before .before .before .before .before .pre in
     ((p .0 .0, p .0 .5), λ k. (p .1 .1 .0 k, mark-le _ _ _ _ (c .before .before .choose .ensures .0) k))
 
-left-of-requires : tie.Need-left-of-requires
-left-of-requires c κs = search needs
-
-returns : tie.Need-returns
-returns c = search needs
-
 pub count-slot-spec : {M : Type 1} → statement M
-count-slot-spec = tie.close (tie.spec choose-requires tally-requires left-of-requires returns)
+count-slot-spec = tie.close (tie.spec choose-requires count-and-advance-requires (λ c κs. search needs) (λ c. search needs))

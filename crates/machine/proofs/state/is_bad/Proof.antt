@@ -1,5 +1,5 @@
 -- `is_bad` tests the slot and then each count. Assumes nothing.
-use Rattle.laws.specs.Sums.{any-zero, any-next, any-in}
+use Rattle.laws.specs.SumLaws.{any-zero, any-next, any-in}
 use Rattle.model.specs.Sums.{anyTo}
 use lib.ListN.{getD}
 use lib.Dec.{ltb}
@@ -24,23 +24,11 @@ returns c = rw (lt-ltb _ _ (c .if1 .taken))
 loop-holds : tie.Need-loop-holds Inv-loop μ-loop
 loop-holds c = (search needs, c .if1 .left, any-zero _)
 
-element-copy-out-if2 : tie.Need-element-copy-out-if2 Inv-loop μ-loop
-element-copy-out-if2 c = search needs
-
-element-copy-out-if2-2 : tie.Need-element-copy-out-if2-2 Inv-loop μ-loop
-element-copy-out-if2-2 c = search needs
-
 returns-2 : tie.Need-returns-2 Inv-loop μ-loop
 returns-2 c =
     let a = c .before .before .before .before .before .before .args in
     let h = any-in (λ j. ltb (getD (a .work .now) j 0) (getD (a .sent .now) j 0)) mostFlows (c .before .before .before .before .loop .k) (search needs) (lt-ltb _ _ (c .if2 .taken)) in
     sym (ap (λ (b : Bool). ltb lastSlot (a .t) || b) h ∙ or-true (ltb lastSlot (a .t)))
-
-add-k : tie.Need-add-k Inv-loop μ-loop
-add-k c = search needs
-
-loop-less : tie.Need-loop-less Inv-loop μ-loop
-loop-less c = search needs
 
 loop-again : tie.Need-loop-again Inv-loop μ-loop
 loop-again c =
@@ -61,10 +49,10 @@ is-bad-spec =
     μ-loop
     returns
     loop-holds
-    element-copy-out-if2
-    element-copy-out-if2-2
+    (λ c. search needs)
+    (λ c. search needs)
     returns-2
-    add-k
-    loop-less
+    (λ c. search needs)
+    (λ c. search needs)
     loop-again
     returns-3)

@@ -5,17 +5,14 @@ use borrow.Author.Needs.{needs}
 use Rattle.machine.proofs.state.state_fault.Statement.{statement}
 use Rattle.machine.proofs.state.state_fault.Tie as tie
 
-is-bad-requires : tie.Need-is-bad-requires
-is-bad-requires c κs = search needs
-
 returns : tie.Need-returns
-returns c = rw (sym (c .before .is-bad .ensures) ∙ c .if1 .taken)
+returns c = c .of .ensures ∙ rw (sym (c .before .before .is-bad .ensures) ∙ c .before .if1 .taken)
 
 returns-2 : tie.Need-returns-2
-returns-2 c = rw (sym (c .before .before .is-bad .ensures) ∙ c .before .if1 .left, le-leb _ _ (c .if2 .taken))
+returns-2 c = c .of2 .ensures ∙ rw (sym (c .before .before .before .is-bad .ensures) ∙ c .before .before .if1 .left, le-leb _ _ (c .before .if2 .taken))
 
 returns-3 : tie.Need-returns-3
-returns-3 c = rw (sym (c .before .before .is-bad .ensures) ∙ c .before .if1 .left, lt-leb _ _ (c .if2 .left))
+returns-3 c = c .none .ensures ∙ rw (sym (c .before .before .before .is-bad .ensures) ∙ c .before .before .if1 .left, lt-leb _ _ (c .before .if2 .left))
 
 pub state-fault-spec : {M : Type 1} → statement M
-state-fault-spec = tie.close (tie.spec is-bad-requires returns returns-2 returns-3)
+state-fault-spec = tie.close (tie.spec (λ c κs. search needs) (λ c κs. search needs) returns (λ c κs. search needs) returns-2 (λ c κs. search needs) returns-3)

@@ -1,3 +1,4 @@
+-- `put_bounds` puts one flow's line more each time round. Assumes nothing.
 use Prim.{tt}
 use mathlib.Core.Path.{_≡_, refl}
 use mathlib.Core.List.{_++_}
@@ -7,16 +8,16 @@ use Rattle.model.specs.Sets.{used}
 use Rattle.document.specs.Program.{boundLines}
 use Rattle.plan_text.specs.BoundText.{boundText}
 use Rattle.text.specs.Put.{Putting, putting-start, putting-more, putting-done}
-use Rattle.plan_text.specs.PlanLines.{bounds-more}
+use Rattle.plan_text.specs.PlanLength.{bounds-more}
 use borrow.Author.Needs.{needs}
 use Rattle.plan_text.proofs.lines.put_bounds.Statement.{statement}
 use Rattle.plan_text.proofs.lines.put_bounds.Tie as tie
 
 abbrev Inv-loop : tie.InvT-loop
-Inv-loop out₀ at s j n place₀ k₀ out place k = Putting out₀ at (boundLines (used s)) n out place k
+Inv-loop out₀ at s all n place₀ k₀ out place k = Putting out₀ at (boundLines (used s)) n out place k
 
 abbrev μ-loop : tie.MeasureT-loop
-μ-loop out₀ at s j n place₀ k₀ out place k = n - k
+μ-loop out₀ at s all n place₀ k₀ out place k = n - k
 
 loop-holds : tie.Need-loop-holds Inv-loop μ-loop
 unfolding boundLines
@@ -24,15 +25,6 @@ loop-holds c = putting-start _ _ _ _ refl (omega arith)
 
 bounds-of-requires : tie.Need-bounds-of-requires Inv-loop μ-loop
 bounds-of-requires c κs = c .before .before .before .pre
-
-put-bound-requires : tie.Need-put-bound-requires Inv-loop μ-loop
-put-bound-requires c κs = tt
-
-add-k : tie.Need-add-k Inv-loop μ-loop
-add-k c = search needs
-
-loop-less : tie.Need-loop-less Inv-loop μ-loop
-loop-less c = search needs
 
 loop-again : tie.Need-loop-again Inv-loop μ-loop
 loop-again c =
@@ -56,9 +48,9 @@ put-bounds-spec =
     μ-loop
     loop-holds
     bounds-of-requires
-    put-bound-requires
-    add-k
-    loop-less
+    (λ c κs. tt)
+    (λ c. search needs)
+    (λ c. search needs)
     loop-again
     same-length
     returns)

@@ -1,3 +1,4 @@
+-- `put_plan` puts the verdict, the bounds and the run one after the other, within the longest plan. Assumes nothing.
 use Prim.{tt}
 use mathlib.Core.Path.{_≡_, sym, ap, _∙_}
 use Prim.Native.Nat.{_≤_}
@@ -7,37 +8,37 @@ use Rattle.model.specs.Sets.{used}
 use Rattle.document.specs.Program.{planOf, verdictLine, boundLines}
 use Rattle.laws.specs.Used.{used-count}
 use Rattle.text.specs.Put.{put-put, put-same, lastPlace}
-use Rattle.plan_text.specs.PlanLines.{plan-le}
+use Rattle.plan_text.specs.PlanLength.{plan-le}
 use Rattle.plan_text.proofs.lines.put_plan.Statement.{statement}
 use Rattle.plan_text.proofs.lines.put_plan.Tie as tie
 
-all-bounds-requires : tie.Need-all-bounds-requires
-all-bounds-requires c κs = tt
-
 verdict-of-requires : tie.Need-verdict-of-requires
 verdict-of-requires c κs = c .all-bounds .ensures
-
-put-verdict-requires : tie.Need-put-verdict-requires
-put-verdict-requires c κs = tt
 
 put-bounds-requires : tie.Need-put-bounds-requires
 put-bounds-requires c κs = c .before .before .before .before .before .before .all-bounds .ensures
 
 put-run-requires : tie.Need-put-run-requires
-put-run-requires c κs = c .before .before .before .before .before .before .before .before .before .before .before .before .pre
+put-run-requires c κs =
+    let verdict = c .before .before .before .before .before .before in
+    verdict .before .before .before .before .before .before .pre
 
 same-length : tie.Need-same-length
-same-length c = c .before .before .put-run .kept .0 ∙ c .before .before .before .before .before .before .put-bounds .kept .0 ∙ c .before .before .before .before .before .before .before .before .before .before .put-verdict .kept .0
+same-length c =
+    let bounds = c .before .before .before .before .before .before in
+    c .before .before .put-run .kept .0 ∙ bounds .put-bounds .kept .0 ∙ bounds .before .before .before .before .put-verdict .kept .0
 
 returns : tie.Need-returns
 unfolding planOf
 returns c =
-    let o = c .before .before .before .before .before .before .before .before .before .before .before .before .before .before .before in
+    let bounds = c .before .before .before .before .before .before in
+    let verdict = bounds .before .before .before .before in
+    let o = verdict .before .before .before .before .before in
     let s = o .args .s in
     let h : length (o .args .out .now) ≤ lastPlace = omega arith in
-    let v = put-same _ _ _ _ _ _ (ap verdictLine (c .before .before .before .before .before .before .before .before .before .before .before .before .verdict-of .ensures)) (c .before .before .before .before .before .before .before .before .before .before .put-verdict .ensures) in
+    let v = put-same _ _ _ _ _ _ (ap verdictLine (verdict .before .before .verdict-of .ensures)) (verdict .put-verdict .ensures) in
     let e : boundLines (used s) (s .count) ≡ boundLines (used s) (used s .count) = ap (boundLines (used s)) (sym (used-count s)) in
-    let b = put-same _ _ _ _ _ _ e (c .before .before .before .before .before .before .put-bounds .ensures) in (
+    let b = put-same _ _ _ _ _ _ e (bounds .put-bounds .ensures) in (
       put-put _ _ _ _ _ _ _ _ h (put-put _ _ _ _ _ _ _ _ h v b) (c .before .before .put-run .ensures),
       plan-le s (o .good .1 .0 .1 .1 .0 .1 .1 .0 .1) (o .pre),
     )
@@ -46,9 +47,9 @@ pub put-plan-spec : {M : Type 1} → statement M
 put-plan-spec =
     tie.close
     (tie.spec
-    all-bounds-requires
+    (λ c κs. tt)
     verdict-of-requires
-    put-verdict-requires
+    (λ c κs. tt)
     put-bounds-requires
     put-run-requires
     same-length

@@ -1,3 +1,4 @@
+-- `put_run` puts one slot's lines more each time round. Assumes nothing.
 use Prim.{tt}
 use mathlib.Core.Path.{_≡_, refl, ap, _∙_}
 use Prim.Native.Nat.{_-_, _<_}
@@ -8,7 +9,7 @@ use Rattle.model.specs.declared.answers.Fault.{Fault}
 use Rattle.document.specs.Machine.{stepOf, runOf, runWith}
 use Rattle.document.specs.Program.{runLines}
 use Rattle.text.specs.Put.{Putting, putting-start, putting-more, putting-done}
-use Rattle.plan_text.specs.RunLines.{run-more, run-last}
+use Rattle.plan_text.specs.RunSlotBySlot.{run-more, run-last}
 use borrow.Author.Needs.{needs}
 use Rattle.plan_text.proofs.lines.put_run.Statement.{statement}
 use Rattle.plan_text.proofs.lines.put_run.Tie as tie
@@ -19,9 +20,6 @@ Inv-loop out₀ at s st₀ place₀ t₀ out st place t = (st ≡ runOf (used s)
 abbrev μ-loop : tie.MeasureT-loop
 μ-loop out₀ at s st₀ place₀ t₀ out st place t = 12 - t
 
-fresh-requires : tie.Need-fresh-requires Inv-loop μ-loop
-fresh-requires c κs = tt
-
 loop-holds : tie.Need-loop-holds Inv-loop μ-loop
 unfolding runLines runWith
 loop-holds c = (c .fresh .ensures, putting-start _ _ _ _ refl (omega arith))
@@ -29,25 +27,18 @@ loop-holds c = (c .fresh .ensures, putting-start _ _ _ _ refl (omega arith))
 step-accepted-requires : tie.Need-step-accepted-requires Inv-loop μ-loop
 step-accepted-requires c κs = ap (λ (f : Fault). good (f .refusal)) (c .before .before .before .before .pre)
 
-put-sends-requires : tie.Need-put-sends-requires Inv-loop μ-loop
-put-sends-requires c κs = tt
-
-add-t : tie.Need-add-t Inv-loop μ-loop
-add-t c = search needs
-
-loop-less : tie.Need-loop-less Inv-loop μ-loop
-loop-less c = search needs
-
 loop-again : tie.Need-loop-again Inv-loop μ-loop
 loop-again c =
-    let o = c .before .before .before .before .before .before .before .before .before .before .before in
+    let stepped = c .before .before .before .before .before .before in
+    let test = stepped .before in
+    let o = test .before .before .before .before in
     let s = o .args .s in
-    let l = c .before .before .before .before .before .before .before .before .loop in
-    let a = c .before .before .before .before .before .before .step-accepted in
+    let l = test .before .loop in
+    let a = stepped .step-accepted in
     let e : a .result ≡ stepOf (used s) (runOf (used s) (l .t) .last) = a .ensures ∙ ap (stepOf (used s)) (l .inv .0) in
     let m : s .map .0 < 65536 = o .good .1 .1 .0 .1 .1 .0 .1 .1 .0 .1 in
     let f = run-more s (l .t) (a .result) (o .pre) m (omega arith) e in
-    (run-last (used s) (l .t) (a .result) e, putting-more _ _ _ _ _ _ _ (l .inv .1) _ _ _ (c .before .before .before .before .before .before .before .loop-test .taken) (omega arith) f (c .before .before .before .put-sends .ensures))
+    (run-last (used s) (l .t) (a .result) e, putting-more _ _ _ _ _ _ _ (l .inv .1) _ _ _ (test .loop-test .taken) (omega arith) f (c .before .before .before .put-sends .ensures))
 
 same-length : tie.Need-same-length Inv-loop μ-loop
 same-length c = c .before .loop .inv .1 .long
@@ -61,12 +52,12 @@ put-run-spec =
     (tie.spec
     Inv-loop
     μ-loop
-    fresh-requires
+    (λ c κs. tt)
     loop-holds
     step-accepted-requires
-    put-sends-requires
-    add-t
-    loop-less
+    (λ c κs. tt)
+    (λ c. search needs)
+    (λ c. search needs)
     loop-again
     same-length
     returns)

@@ -1,72 +1,59 @@
-use mathlib.Core.Path.{ap, _∙_}
+-- `write_step` leaves what its three ways out say: a refusal of the step, no room, or both buffers written. Assumes nothing.
+use mathlib.Core.Path.{ap, ap₂, _∙_}
 use Prim.Native.Nat.{_≤_}
 use native.Mathlib.Omega.{arith}
 use lib.ListN.{length}
+use Rattle.document.specs.Reader.{refusedWriting}
 use Rattle.text.specs.Lengths.{put-start}
-use Rattle.planner.specs.Steps.{stepLines}
-use Rattle.document.specs.Reader.{wrote}
-use Rattle.laws.specs.Codes.{is-good, not-good}
-use Rattle.planner.specs.Stepping.{left-refused, left-no-room, left-written}
+use Rattle.planner.specs.AfterStep.{left-refused, left-no-room, left-written}
+use Rattle.planner.specs.Refuses.{accepts, refuses}
+use Rattle.planner.specs.StepWritten.{stepLines, written}
 use borrow.Author.Needs.{needs}
 use Rattle.planner.proofs.slots.write_step.Statement.{statement}
 use Rattle.planner.proofs.slots.write_step.Tie as tie
 
-code-requires : tie.Need-code-requires
-code-requires c κs = search needs
-
-refused-requires : tie.Need-refused-requires
-refused-requires c κs = search needs
-
 returns : tie.Need-returns
 returns c =
     let a = c .before .before .before .before .before .before .args in
-    let w = left-refused (a .a) (a .state .now) (a .lines .now) (not-good (a .a .fault .refusal) (c .before .before .code .ensures) (c .before .if1 .taken)) in
-    (c .refused .ensures ∙ w .0, w .1)
-
-lines-length-requires : tie.Need-lines-length-requires
-lines-length-requires c κs = search needs
-
-refused-by-requires : tie.Need-refused-by-requires
-refused-by-requires c κs = search needs
+    let w = left-refused (a .stepped) (a .state .now) (a .lines .now) (refuses (a .stepped .fault) (c .before .before .refuses .ensures) (c .before .if1 .taken)) in
+    (c .refused-writing .ensures ∙ w .0, w .1)
 
 returns-2 : tie.Need-returns-2
 returns-2 c =
-    let a = c .before .before .before .before .before .before .before .before .before .args in
-    let w = left-no-room (a .a) (a .state .now) (a .lines .now) (is-good (a .a .fault .refusal) (c .before .before .before .before .before .code .ensures) (c .before .before .before .before .if1 .left)) (omega (arith, c .before .before .lines-length .ensures)) in
-    (c .refused-by .ensures ∙ w .0, w .1)
-
-put-state-requires : tie.Need-put-state-requires
-put-state-requires c κs = search needs
-
-put-lines-requires : tie.Need-put-lines-requires
-put-lines-requires c κs = search needs
-
-same-length : tie.Need-same-length
-same-length c = search needs
-
-same-length-2 : tie.Need-same-length-2
-same-length-2 c = search needs
+    let l = c .before .before .before in
+    let d = l .before .before .before in
+    let a = d .before .before .before .before .args in
+    let g = accepts (a .stepped .fault) (d .refuses .ensures) (l .before .before .if1 .left) in
+    let w = left-no-room (a .stepped) (a .state .now) (a .lines .now) g (omega (arith, l .lines-length .ensures)) in
+    (c .refused-writing2 .ensures ∙ ap refusedWriting (c .before .of .ensures) ∙ w .0, w .1)
 
 returns-3 : tie.Need-returns-3
 returns-3 c =
-    let a = c .before .before .before .before .before .before .before .before .before .before .before .before .before .before .before .before .before .args in
-    let n = c .before .before .before .before .before .before .before .before .before .before .lines-length .ensures in
-    let h : length (stepLines (a .a)) ≤ length (a .lines .now) = omega (arith, n) in
-    let w = left-written (a .a) (a .state .now) (a .lines .now) (is-good (a .a .fault .refusal) (c .before .before .before .before .before .before .before .before .before .before .before .before .before .code .ensures) (c .before .before .before .before .before .before .before .before .before .before .before .before .if1 .left)) h in
-    (ap wrote n ∙ w .0, (c .before .before .before .before .before .before .put-state .ensures ∙ w .1 .0, put-start (c .before .before .put-lines .ensures) h ∙ w .1 .1))
+    let p = c .before .before .before in
+    let s = p .before .before .before .before in
+    let l = s .before .before .before .before in
+    let d = l .before .before .before in
+    let a = d .before .before .before .before .args in
+    let g = accepts (a .stepped .fault) (d .refuses .ensures) (l .before .before .if1 .left) in
+    let n = l .lines-length .ensures in
+    let h : length (stepLines (a .stepped)) ≤ length (a .lines .now) = omega (arith, n) in
+    let w = left-written (a .stepped) (a .state .now) (a .lines .now) g h in
+    (ap₂ written (c .none .ensures) n ∙ w .0, (s .put-state .ensures ∙ w .1 .0, put-start (p .put-lines .ensures) h ∙ w .1 .1))
 
 pub write-step-spec : {M : Type 1} → statement M
 write-step-spec =
     tie.close
     (tie.spec
-    code-requires
-    refused-requires
+    (λ c κs. search needs)
+    (λ c κs. search needs)
     returns
-    lines-length-requires
-    refused-by-requires
+    (λ c κs. search needs)
+    (λ c κs. search needs)
+    (λ c κs. search needs)
     returns-2
-    put-state-requires
-    put-lines-requires
-    same-length
-    same-length-2
+    (λ c κs. search needs)
+    (λ c κs. search needs)
+    (λ c κs. search needs)
+    (λ c. search needs)
+    (λ c. search needs)
     returns-3)

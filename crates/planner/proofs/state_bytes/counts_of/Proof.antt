@@ -1,3 +1,4 @@
+-- `counts_of` copies byte k + 4 to place k; what is copied so far is what stood there. Assumes nothing.
 use mathlib.Core.List.{[]}
 use native.Mathlib.Omega.{arith}
 use Rattle.planner.specs.StateCopy.{copy-after, copy-all}
@@ -15,24 +16,6 @@ Inv-loop b sent₀ k₀ sent k = (k ≤ mostFlows) × (length sent ≡ mostFlows
 abbrev μ-loop : tie.MeasureT-loop
 μ-loop b sent₀ k₀ sent k = mostFlows - k
 
-loop-holds : tie.Need-loop-holds Inv-loop μ-loop
-loop-holds c = search needs
-
-add-sent : tie.Need-add-sent Inv-loop μ-loop
-add-sent c = search needs
-
-shared-slice-read-sent : tie.Need-shared-slice-read-sent Inv-loop μ-loop
-shared-slice-read-sent c = search needs
-
-array-write-sent : tie.Need-array-write-sent Inv-loop μ-loop
-array-write-sent c = search needs
-
-add-k : tie.Need-add-k Inv-loop μ-loop
-add-k c = search needs
-
-loop-less : tie.Need-loop-less Inv-loop μ-loop
-loop-less c = search needs
-
 loop-again : tie.Need-loop-again Inv-loop μ-loop
 loop-again c =
     (search needs, search needs, copy-after 4 (c .before .before .before .args .b .now) (c .before .before .loop .sent) (c .before .before .loop .k) (omega arith) (omega arith) (c .before .before .loop .inv .2))
@@ -48,11 +31,11 @@ counts-of-spec =
     (tie.spec
     Inv-loop
     μ-loop
-    loop-holds
-    add-sent
-    shared-slice-read-sent
-    array-write-sent
-    add-k
-    loop-less
+    (λ c. search needs)
+    (λ c. search needs)
+    (λ c. search needs)
+    (λ c. search needs)
+    (λ c. search needs)
+    (λ c. search needs)
     loop-again
     returns)

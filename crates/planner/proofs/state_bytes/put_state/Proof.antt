@@ -1,15 +1,9 @@
--- `put_state` does what it does of 68 bytes, and nothing of others. Assumes nothing.
+-- `put_state` writes over 68 bytes, and leaves others. Assumes nothing.
 use mathlib.Core.Path.{sym, _∙_}
 use Rattle.planner.specs.StateBytes.{with-state, with-none}
 use borrow.Author.Needs.{needs}
 use Rattle.planner.proofs.state_bytes.put_state.Statement.{statement}
 use Rattle.planner.proofs.state_bytes.put_state.Tie as tie
-
-write-state-requires : tie.Need-write-state-requires
-write-state-requires c κs = search needs
-
-same-length : tie.Need-same-length
-same-length c = search needs
 
 returns : tie.Need-returns
 returns c =
@@ -20,4 +14,4 @@ returns-2 : tie.Need-returns-2
 returns-2 c = sym (with-none (c .before .before .args .st) (c .before .before .args .b .now) (c .if1 .left))
 
 pub put-state-spec : {M : Type 1} → statement M
-put-state-spec = tie.close (tie.spec write-state-requires same-length returns returns-2)
+put-state-spec = tie.close (tie.spec (λ c κs. search needs) (λ c. search needs) returns returns-2)

@@ -26,18 +26,6 @@ loop-holds c =
     let h : a .n ≤ mostNodes = search needs in
     (e, omega arith, twice-end (a .t1) (a .n) (omega arith) (a .n) (omega arith), seen-none _ (a .t1) (a .n) refl (omega arith))
 
-sub-at : tie.Need-sub-at Inv-loop μ-loop
-sub-at c = search needs
-
-mul-node : tie.Need-mul-node Inv-loop μ-loop
-mul-node c = search needs
-
-array-read-node : tie.Need-array-read-node Inv-loop μ-loop
-array-read-node c = search needs
-
-add-stands-later : tie.Need-add-stands-later Inv-loop μ-loop
-add-stands-later c = search needs
-
 stands-later-requires : tie.Need-stands-later-requires Inv-loop μ-loop
 stands-later-requires c κs =
     let l = c .before .before .loop in
@@ -51,15 +39,6 @@ returns c =
     let l = c .before .before .before .before .loop in
     let s = c .before .stands-later .ensures in
     sym (twice-whole (take (a .n) (a .t1)) (l .i - 1) (twice-here (a .t1) (a .n) (omega (arith, l .inv .0)) (l .i - 1) (omega (arith, l .inv .1)) (sym s ∙ c .if1 .taken)))
-
-cast-mark : tie.Need-cast-mark Inv-loop μ-loop
-cast-mark c = search needs
-
-array-write-seen : tie.Need-array-write-seen Inv-loop μ-loop
-array-write-seen c = search needs
-
-loop-less : tie.Need-loop-less Inv-loop μ-loop
-loop-less c = search needs
 
 loop-again : tie.Need-loop-again Inv-loop μ-loop
 loop-again c =
@@ -87,14 +66,14 @@ repeats-spec =
     Inv-loop
     μ-loop
     loop-holds
-    sub-at
-    mul-node
-    array-read-node
-    add-stands-later
+    (λ c. search needs)
+    (λ c. search needs)
+    (λ c. search needs)
+    (λ c. search needs)
     stands-later-requires
     returns
-    cast-mark
-    array-write-seen
-    loop-less
+    (λ c. search needs)
+    (λ c. search needs)
+    (λ c. search needs)
     loop-again
     returns-2)

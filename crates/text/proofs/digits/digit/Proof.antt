@@ -4,14 +4,8 @@ use borrow.Author.Needs.{needs}
 use Rattle.text.proofs.digits.digit.Statement.{statement}
 use Rattle.text.proofs.digits.digit.Tie as tie
 
-add-result : tie.Need-add-result
-add-result c = search needs
-
-cast-result : tie.Need-cast-result
-cast-result c = search needs
-
 returns : tie.Need-returns
 returns c = refl
 
 pub digit-spec : {M : Type 1} → statement M
-digit-spec = tie.close (tie.spec add-result cast-result returns)
+digit-spec = tie.close (tie.spec (λ c. search needs) (λ c. search needs) returns)

@@ -5,17 +5,8 @@ use borrow.Author.Needs.{needs}
 use Rattle.text.proofs.digits.put_at.Statement.{statement}
 use Rattle.text.proofs.digits.put_at.Tie as tie
 
-slice-write-out : tie.Need-slice-write-out
-slice-write-out c = search needs
-
-same-length : tie.Need-same-length
-same-length c = search needs
-
-returns : tie.Need-returns
-returns c = search needs
-
 returns-2 : tie.Need-returns-2
 returns-2 c = sym (set-out _ _ _ (c .if1 .left))
 
 pub put-at-spec : {M : Type 1} → statement M
-put-at-spec = tie.close (tie.spec slice-write-out same-length returns returns-2)
+put-at-spec = tie.close (tie.spec (λ c. search needs) (λ c. search needs) (λ c. search needs) returns-2)

@@ -1,12 +1,12 @@
 -- `width` counts a digit for each division by ten: those counted and those of what is left are the number's.
 -- The measure is what is left. Assumes nothing.
 use native.Mathlib.Omega.{arith}
-use Rattle.text.specs.Decimals.{Counted, counted-start, counted-more, counted-done, decimal-most}
+use Rattle.text.specs.Decimals.{DigitsCounted, counted-start, counted-more, counted-done, decimal-most}
 use Rattle.text.proofs.digits.width.Statement.{statement}
 use Rattle.text.proofs.digits.width.Tie as tie
 
 abbrev Inv-loop : tie.InvT-loop
-Inv-loop v n₀ digits₀ n digits = Counted v n digits
+Inv-loop v n₀ digits₀ n digits = DigitsCounted v n digits
 
 abbrev μ-loop : tie.MeasureT-loop
 μ-loop v n₀ digits₀ n digits = n

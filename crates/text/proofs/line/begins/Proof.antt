@@ -5,12 +5,6 @@ use borrow.Author.Needs.{needs}
 use Rattle.text.proofs.line.begins.Statement.{statement}
 use Rattle.text.proofs.line.begins.Tie as tie
 
-shared-slice-read-is-byte : tie.Need-shared-slice-read-is-byte
-shared-slice-read-is-byte c = search needs
-
-is-byte-requires : tie.Need-is-byte-requires
-is-byte-requires c κs = search needs
-
 returns : tie.Need-returns
 returns c = c .is-byte .ensures ∙ sym (begins-here _ _ _ (c .before .before .if1 .taken))
 
@@ -18,4 +12,4 @@ returns-2 : tie.Need-returns-2
 returns-2 c = sym (begins-beyond _ _ _ (c .if1 .left))
 
 pub begins-spec : {M : Type 1} → statement M
-begins-spec = tie.close (tie.spec shared-slice-read-is-byte is-byte-requires returns returns-2)
+begins-spec = tie.close (tie.spec (λ c. search needs) (λ c κs. search needs) returns returns-2)

@@ -18,32 +18,14 @@ abbrev μ-loop : tie.MeasureT-loop
 loop-holds : tie.Need-loop-holds Inv-loop μ-loop
 loop-holds c = spelling-start _ _ _
 
-shared-slice-read-begins : tie.Need-shared-slice-read-begins Inv-loop μ-loop
-shared-slice-read-begins c = search needs
-
-begins-requires : tie.Need-begins-requires Inv-loop μ-loop
-begins-requires c κs = search needs
-
 add-at : tie.Need-add-at Inv-loop μ-loop
 add-at c = omega (arith, spelling-inside _ _ _ _ _ (c .before .before .before .before .loop .inv) (sym (c .before .begins .ensures) ∙ c .if1 .taken))
-
-add-i : tie.Need-add-i Inv-loop μ-loop
-add-i c = search needs
-
-loop-less : tie.Need-loop-less Inv-loop μ-loop
-loop-less c = search needs
 
 loop-again : tie.Need-loop-again Inv-loop μ-loop
 loop-again c = spelling-more _ _ _ _ _ (c .before .before .before .before .loop .inv) (c .before .before .before .loop-test .taken) (sym (c .before .begins .ensures) ∙ c .if1 .taken)
 
-none-requires : tie.Need-none-requires Inv-loop μ-loop
-none-requires c κs = search needs
-
 returns : tie.Need-returns Inv-loop μ-loop
 returns c = c .none .ensures ∙ spelling-refused _ _ _ _ _ (c .before .before .before .before .before .loop .inv) (c .before .before .before .before .loop-test .taken) (sym (c .before .before .begins .ensures) ∙ c .before .if1 .left)
-
-numbers-at-requires : tie.Need-numbers-at-requires Inv-loop μ-loop
-numbers-at-requires c κs = search needs
 
 returns-2 : tie.Need-returns-2 Inv-loop μ-loop
 returns-2 c = c .numbers-at .ensures ∙ spelling-row _ _ _ _ _ (c .before .before .loop .inv) (c .before .loop-test .left)
@@ -55,13 +37,13 @@ line-at-spec =
     Inv-loop
     μ-loop
     loop-holds
-    shared-slice-read-begins
-    begins-requires
+    (λ c. search needs)
+    (λ c κs. search needs)
     add-at
-    add-i
-    loop-less
+    (λ c. search needs)
+    (λ c. search needs)
     loop-again
-    none-requires
+    (λ c κs. search needs)
     returns
-    numbers-at-requires
+    (λ c κs. search needs)
     returns-2)

@@ -23,12 +23,9 @@ returns-4 : tie.Need-returns-4
 unfolding lookByte
 returns-4 c = (simp (le-ltb _ _ (c .before .if1 .left), lt-ltb _ _ (c .if4 .taken)), lit≤ tt)
 
-cast-result : tie.Need-cast-result
-cast-result c = search needs
-
 returns-5 : tie.Need-returns-5
 unfolding lookByte
 returns-5 c = (simp (le-ltb _ _ (c .before .if1 .left), le-ltb _ _ (c .if4 .left)), omega arith)
 
 pub look-byte-spec : {M : Type 1} → statement M
-look-byte-spec = tie.close (tie.spec returns returns-2 returns-3 returns-4 cast-result returns-5)
+look-byte-spec = tie.close (tie.spec returns returns-2 returns-3 returns-4 (λ c. search needs) returns-5)

@@ -4,37 +4,25 @@ use mathlib.Core.Path.{sym, _∙_}
 use Prim.Native.Nat.{_-_}
 use native.Mathlib.Omega.{arith}
 use lib.ListN.{length}
-use Rattle.text.specs.Digits.{Digits, digits-start, digits-inside, digits-more, digits-large, digits-other, digits-stop}
+use Rattle.text.specs.DigitsRead.{DigitsSoFar, digits-start, digits-inside, digits-more, digits-large, digits-other, digits-stop}
 use borrow.Author.Needs.{needs}
 use Rattle.text.proofs.line.number_at.Statement.{statement}
 use Rattle.text.proofs.line.number_at.Tie as tie
 
 abbrev Inv-loop : tie.InvT-loop
-Inv-loop s from i₀ v₀ d₀ i v d = Digits s from i v d
+Inv-loop s from i₀ v₀ d₀ i v d = DigitsSoFar s from i v d
 
 abbrev μ-loop : tie.MeasureT-loop
 μ-loop s from i₀ v₀ d₀ i v d = length s - i
 
-look-at-requires : tie.Need-look-at-requires Inv-loop μ-loop
-look-at-requires c κs = search needs
-
 loop-holds : tie.Need-loop-holds Inv-loop μ-loop
 loop-holds c = digits-start _ _ _ (c .look-at .ensures .0) (c .look-at .ensures .1)
-
-mul-v : tie.Need-mul-v Inv-loop μ-loop
-mul-v c = search needs
-
-add-v : tie.Need-add-v Inv-loop μ-loop
-add-v c = search needs
 
 returns : tie.Need-returns Inv-loop μ-loop
 returns c = sym (digits-large _ _ _ _ _ (c .before .before .loop .inv) (c .before .loop-test .taken) (c .if1 .taken))
 
 add-i : tie.Need-add-i Inv-loop μ-loop
 add-i c = omega (arith, digits-inside _ _ _ _ _ (c .before .before .loop .inv) (c .before .loop-test .taken))
-
-look-at-requires-2 : tie.Need-look-at-requires-2 Inv-loop μ-loop
-look-at-requires-2 c κs = search needs
 
 loop-less : tie.Need-loop-less Inv-loop μ-loop
 loop-less c = omega (arith, digits-inside _ _ _ _ _ (c .before .before .before .loop .inv) (c .before .before .loop-test .taken))
@@ -46,15 +34,6 @@ loop-again c =
 
 returns-2 : tie.Need-returns-2 Inv-loop μ-loop
 returns-2 c = sym (digits-other _ _ _ _ _ (c .before .before .loop .inv) (c .if2 .taken))
-
-byte-at-requires : tie.Need-byte-at-requires Inv-loop μ-loop
-byte-at-requires c κs = search needs
-
-cast-number-of : tie.Need-cast-number-of Inv-loop μ-loop
-cast-number-of c = search needs
-
-number-of-requires : tie.Need-number-of-requires Inv-loop μ-loop
-number-of-requires c κs = search needs
 
 returns-3 : tie.Need-returns-3 Inv-loop μ-loop
 returns-3 c =
@@ -68,17 +47,17 @@ number-at-spec =
     (tie.spec
     Inv-loop
     μ-loop
-    look-at-requires
+    (λ c κs. search needs)
     loop-holds
-    mul-v
-    add-v
+    (λ c. search needs)
+    (λ c. search needs)
     returns
     add-i
-    look-at-requires-2
+    (λ c κs. search needs)
     loop-less
     loop-again
     returns-2
-    byte-at-requires
-    cast-number-of
-    number-of-requires
+    (λ c κs. search needs)
+    (λ c. search needs)
+    (λ c κs. search needs)
     returns-3)

@@ -7,9 +7,6 @@ use Rattle.text.proofs.line.number_of.Tie as tie
 returns : tie.Need-returns
 returns c = simp (le-leb _ _ (c .if1 .taken))
 
-sub-if2 : tie.Need-sub-if2
-sub-if2 c = search needs
-
 returns-2 : tie.Need-returns-2
 returns-2 c = simp (lt-leb _ _ (c .before .if1 .left), eq-eqb _ _ (c .if2 .taken))
 
@@ -20,4 +17,4 @@ returns-4 : tie.Need-returns-4
 returns-4 c = simp (lt-leb _ _ (c .before .before .if1 .left), ne-eqb _ _ (c .before .if2 .left), ne-eqb _ _ (c .if3 .left))
 
 pub number-of-spec : {M : Type 1} → statement M
-number-of-spec = tie.close (tie.spec returns sub-if2 returns-2 returns-3 returns-4)
+number-of-spec = tie.close (tie.spec returns (λ c. search needs) returns-2 returns-3 returns-4)

@@ -5,13 +5,13 @@ use mathlib.Core.Logic.{⊎-elim}
 use Prim.Native.Nat.{_-_}
 use native.Mathlib.Omega.{arith}
 use lib.ListN.{length}
-use Rattle.text.specs.Rows.{Numbers, numbers-start, numbers-refused, numbers-inside, numbers-next, numbers-kept, numbers-full, numbers-on, numbers-ended, numbers-other}
+use Rattle.text.specs.Rows.{NumbersSoFar, numbers-start, numbers-refused, numbers-inside, numbers-next, numbers-kept, numbers-full, numbers-on, numbers-ended, numbers-other}
 use borrow.Author.Needs.{needs}
 use Rattle.text.proofs.line.numbers_at.Statement.{statement}
 use Rattle.text.proofs.line.numbers_at.Tie as tie
 
 abbrev Inv-loop : tie.InvT-loop
-Inv-loop s from numbers₀ k₀ i₀ numbers k i = Numbers s from i k numbers
+Inv-loop s from numbers₀ k₀ i₀ numbers k i = NumbersSoFar s from i k numbers
 
 abbrev μ-loop : tie.MeasureT-loop
 μ-loop s from numbers₀ k₀ i₀ numbers k i = length s - i
@@ -19,34 +19,16 @@ abbrev μ-loop : tie.MeasureT-loop
 loop-holds : tie.Need-loop-holds Inv-loop μ-loop
 loop-holds c = numbers-start _ _
 
-byte-at-requires : tie.Need-byte-at-requires Inv-loop μ-loop
-byte-at-requires c κs = search needs
-
 add-number-at : tie.Need-add-number-at Inv-loop μ-loop
 add-number-at c = omega (arith, numbers-inside _ _ _ _ _ (c .before .before .loop .inv) 9 (sym (c .before .byte-at .ensures) ∙ c .if1 .taken) (omega arith))
 
-number-at-requires : tie.Need-number-at-requires Inv-loop μ-loop
-number-at-requires c κs = search needs
-
-enum-known-v : tie.Need-enum-known-v Inv-loop μ-loop
-enum-known-v c = search needs
-
 enum-told : tie.Need-enum-told Inv-loop μ-loop
 enum-told c = search needs
-
-none-requires : tie.Need-none-requires Inv-loop μ-loop
-none-requires c κs = search needs
 
 returns : tie.Need-returns Inv-loop μ-loop
 returns c =
     c .none .ensures
     ∙ numbers-refused _ _ _ _ _ (c .before .before .before .before .before .before .loop .inv) (sym (c .before .before .before .before .before .byte-at .ensures) ∙ c .before .before .before .before .if1 .taken) (sym (c .before .before .before .number-at .ensures) ∙ c .before .enum-told .given .1)
-
-mul-numbers : tie.Need-mul-numbers Inv-loop μ-loop
-mul-numbers c = search needs
-
-array-write-numbers : tie.Need-array-write-numbers Inv-loop μ-loop
-array-write-numbers c = search needs
 
 add-k : tie.Need-add-k Inv-loop μ-loop
 add-k c = omega (arith, numbers-inside _ _ _ _ _ (c .before .before .before .before .before .before .before .loop .inv) 9 (sym (c .before .before .before .before .before .before .byte-at .ensures) ∙ c .before .before .before .before .before .if1 .taken) (omega arith))
@@ -68,17 +50,11 @@ loop-again c =
     (c .if2 .came))
     (sym (c .before .before .before .before .before .before .byte-at .ensures) ∙ c .before .before .before .before .before .if1 .taken) (sym (c .before .before .before .before .number-at .ensures) ∙ c .before .before .v .given .1)
 
-byte-at-requires-2 : tie.Need-byte-at-requires-2 Inv-loop μ-loop
-byte-at-requires-2 c κs = search needs
-
 add-t18 : tie.Need-add-t18 Inv-loop μ-loop
 add-t18 c = omega (arith, numbers-inside _ _ _ _ _ (c .before .before .before .before .loop .inv) 10 (sym (c .before .byte-at2 .ensures) ∙ c .if3 .taken) (omega arith))
 
 returns-2 : tie.Need-returns-2 Inv-loop μ-loop
 returns-2 c = numbers-ended _ _ _ _ _ (c .before .before .before .before .loop .inv) (sym (c .before .byte-at2 .ensures) ∙ c .if3 .taken)
-
-none-requires-2 : tie.Need-none-requires-2 Inv-loop μ-loop
-none-requires-2 c κs = search needs
 
 returns-3 : tie.Need-returns-3 Inv-loop μ-loop
 returns-3 c =
@@ -92,20 +68,20 @@ numbers-at-spec =
     Inv-loop
     μ-loop
     loop-holds
-    byte-at-requires
+    (λ c κs. search needs)
     add-number-at
-    number-at-requires
-    enum-known-v
+    (λ c κs. search needs)
+    (λ c. search needs)
     enum-told
-    none-requires
+    (λ c κs. search needs)
     returns
-    mul-numbers
-    array-write-numbers
+    (λ c. search needs)
+    (λ c. search needs)
     add-k
     loop-less
     loop-again
-    byte-at-requires-2
+    (λ c κs. search needs)
     add-t18
     returns-2
-    none-requires-2
+    (λ c κs. search needs)
     returns-3)

@@ -16,28 +16,10 @@ Inv-loop out₀ at n sent m place₀ i₀ out place i = (length sent ≡ mostCha
 abbrev μ-loop : tie.MeasureT-loop
 μ-loop out₀ at n sent m place₀ i₀ out place i = m - i
 
-number-of-requires : tie.Need-number-of-requires Inv-loop μ-loop
-number-of-requires c κs = search needs
-
 loop-holds : tie.Need-loop-holds Inv-loop μ-loop
 unfolding sendLines
 loop-holds c =
-    (c .before .before .good .1 .1 .0 .1 .0 .1, c .number-of .ensures .0, c .number-of .ensures .1, putting-start _ _ _ _ refl (omega arith))
-
-mul-x : tie.Need-mul-x Inv-loop μ-loop
-mul-x c = search needs
-
-array-copy-out-x : tie.Need-array-copy-out-x Inv-loop μ-loop
-array-copy-out-x c = search needs
-
-put-send-requires : tie.Need-put-send-requires Inv-loop μ-loop
-put-send-requires c κs = search needs
-
-add-i : tie.Need-add-i Inv-loop μ-loop
-add-i c = search needs
-
-loop-less : tie.Need-loop-less Inv-loop μ-loop
-loop-less c = search needs
+    (c .before .before .good .1 .1 .0 .1 .0 .1, c .count-of-sends .ensures .0, c .count-of-sends .ensures .1, putting-start _ _ _ _ refl (omega arith))
 
 loop-again : tie.Need-loop-again Inv-loop μ-loop
 loop-again c =
@@ -59,13 +41,13 @@ put-sends-spec =
     (tie.spec
     Inv-loop
     μ-loop
-    number-of-requires
+    (λ c κs. search needs)
     loop-holds
-    mul-x
-    array-copy-out-x
-    put-send-requires
-    add-i
-    loop-less
+    (λ c. search needs)
+    (λ c. search needs)
+    (λ c κs. search needs)
+    (λ c. search needs)
+    (λ c. search needs)
     loop-again
     same-length
     returns)

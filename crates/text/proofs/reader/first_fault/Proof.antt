@@ -5,21 +5,12 @@ use borrow.Author.Needs.{needs}
 use Rattle.text.proofs.reader.first_fault.Statement.{statement}
 use Rattle.text.proofs.reader.first_fault.Tie as tie
 
-element-copy-out-map-fault : tie.Need-element-copy-out-map-fault
-element-copy-out-map-fault c = search needs
-
-map-fault-requires : tie.Need-map-fault-requires
-map-fault-requires c κs = search needs
-
 returns : tie.Need-returns
 returns c = c .map-fault .ensures ∙ rw (c .before .before .before .if1 .taken, eq-eqb _ 1 (c .before .before .if2 .taken))
 
 returns-2 : tie.Need-returns-2
 returns-2 c = rw (c .before .if1 .taken, ne-eqb _ 1 (c .if2 .left))
 
-returns-3 : tie.Need-returns-3
-returns-3 c = search needs
-
 pub first-fault-spec : {M : Type 1} → statement M
 first-fault-spec =
-    tie.close (tie.spec element-copy-out-map-fault map-fault-requires returns returns-2 returns-3)
+    tie.close (tie.spec (λ c. search needs) (λ c κs. search needs) returns returns-2 (λ c. search needs))

@@ -1,14 +1,16 @@
 -- `read_flows` goes over the lines; what is left of them, read after the flows so far, is the whole answer (`Lines`).
 -- The measure is what is left of the text. Assumes nothing.
 use mathlib.Core.Path.{_≡_, sym, _∙_}
-use Prim.Native.Nat.{_-_}
+use Prim.Native.Nat.{_-_, _<_}
 use native.Mathlib.Omega.{arith}
 use lib.ListN.{length, drop}
 use Rattle.document.specs.Reader.{readFlows}
+use Rattle.model.specs.Limits.{mostFlows}
+use Rattle.model.specs.Refusals.{refusalNumber}
 use Rattle.model.specs.Sets.{blankSet}
 use Rattle.document.specs.Text.{lines}
-use Rattle.text.specs.Judged.{setWith}
-use Rattle.text.specs.Judging.{Lines, lines-start, lines-done, lines-refused, lines-good, lines-on, lines-more}
+use Rattle.text.specs.RowFaults.{setWith}
+use Rattle.text.specs.FlowRows.{Lines, NextLine, lines-start, lines-done, lines-refused, lines-good, lines-on, lines-more}
 use borrow.Author.Needs.{needs}
 use Rattle.text.proofs.reader.read_flows.Statement.{statement}
 use Rattle.text.proofs.reader.read_flows.Tie as tie
@@ -19,56 +21,61 @@ Inv-loop text from map blank set₀ at₀ k₀ set at k = (blank ≡ blankSet) �
 abbrev μ-loop : tie.MeasureT-loop
 μ-loop text from map blank set₀ at₀ k₀ set at k = length text - at
 
-blank-requires : tie.Need-blank-requires Inv-loop μ-loop
-blank-requires c κs = search needs
-
 loop-holds : tie.Need-loop-holds Inv-loop μ-loop
-loop-holds c = (c .blank .ensures, lines-start _ _ _ _ (c .blank .ensures))
+loop-holds c = (c .before .blank .ensures, lines-start _ _ _ _ (c .before .blank .ensures) _ (c .new .ensures))
 
-flow-line-requires : tie.Need-flow-line-requires Inv-loop μ-loop
-flow-line-requires c κs = search needs
+-- the line that the loop has come to
+next-line : (c : tie.After-flow-fault Inv-loop μ-loop)
+    → let l = c .before .before .before .loop in
+    let a = c .before .before .before .before .before .before .before .args in
+    NextLine (a .text .now) (readFlows (setWith (a .map)) (lines (drop (a .from) (a .text .now)))) (l .at) (l .k) (l .set) (c .before .flow-row .result) (c .flow-fault .result)
+next-line c =
+    record {
+      so-far = c .before .before .before .loop .inv .1;
+      inside = c .before .before .loop-test .taken;
+      row-is = c .before .flow-row .ensures;
+      refusal-is = c .flow-fault .ensures;
+    }
 
-flow-fault-requires : tie.Need-flow-fault-requires Inv-loop μ-loop
-flow-fault-requires c κs = search needs
-
-code-requires : tie.Need-code-requires Inv-loop μ-loop
-code-requires c κs = search needs
-
-line-of-requires : tie.Need-line-of-requires Inv-loop μ-loop
-line-of-requires c κs = search needs
-
-answer-requires : tie.Need-answer-requires Inv-loop μ-loop
-answer-requires c κs = search needs
+-- no rule refuses it
+passed : (c : tie.Else1 Inv-loop μ-loop) → refusalNumber (c .before .before .flow-fault .result) ≡ 0
+passed c = sym (c .before .code .ensures) ∙ c .if1 .left
 
 returns : tie.Need-returns Inv-loop μ-loop
-returns c = (rw (c .before .line-of .ensures) at (c .answer .ensures)) ∙ lines-refused _ _ _ _ _ (c .before .before .before .before .before .before .before .loop .inv .1) (c .before .before .before .before .before .before .loop-test .taken) _ (c .before .before .before .before .before .flow-line .ensures) _ (c .before .before .before .before .flow-fault .ensures) _ (c .before .before .before .before .before .before .before .loop .inv .0) (λ q. c .before .before .if1 .taken (c .before .before .before .code .ensures ∙ q))
+returns c =
+    let j = c .before .before in
+    (rw (c .before .line-number-of .ensures) at (c .reading-of .ensures))
+    ∙ lines-refused (next-line (j .before .before)) _ (j .before .before .before .before .before .loop .inv .0) (λ q. j .if1 .taken (j .before .code .ensures ∙ q))
 
 flow-of-requires : tie.Need-flow-of-requires Inv-loop μ-loop
-flow-of-requires c κs = let g = lines-good _ _ _ _ _ (c .before .before .before .before .before .loop .inv .1) (c .before .before .before .before .loop-test .taken) _ (c .before .before .before .flow-line .ensures) _ (c .before .before .flow-fault .ensures) (sym (c .before .code .ensures) ∙ c .if1 .left) in (g .four, g .few)
+flow-of-requires c κs = let g = lines-good (next-line (c .before .before)) (passed c) in (g .four, g .few)
+
+-- and it is one of 64
+fits : (c : tie.Else1 Inv-loop μ-loop) → c .before .before .before .before .before .loop .k < mostFlows
+fits c = lines-good (next-line (c .before .before)) (passed c) .fits
 
 mul-flow : tie.Need-mul-flow Inv-loop μ-loop
-mul-flow c = omega (arith, lines-good _ _ _ _ _ (c .before .before .before .before .before .before .loop .inv .1) (c .before .before .before .before .before .loop-test .taken) _ (c .before .before .before .before .flow-line .ensures) _ (c .before .before .before .flow-fault .ensures) (sym (c .before .before .code .ensures) ∙ c .before .if1 .left) .fits)
+mul-flow c = omega (arith, fits (c .before))
 
 element-set-from-flow : tie.Need-element-set-from-flow Inv-loop μ-loop
-element-set-from-flow c = omega (arith, lines-good _ _ _ _ _ (c .before .before .before .before .before .before .loop .inv .1) (c .before .before .before .before .before .loop-test .taken) _ (c .before .before .before .before .flow-line .ensures) _ (c .before .before .before .flow-fault .ensures) (sym (c .before .before .code .ensures) ∙ c .before .if1 .left) .fits)
+element-set-from-flow c = omega (arith, fits (c .before))
 
 add-k : tie.Need-add-k Inv-loop μ-loop
-add-k c = omega (arith, lines-good _ _ _ _ _ (c .before .before .before .before .before .before .loop .inv .1) (c .before .before .before .before .before .loop-test .taken) _ (c .before .before .before .before .flow-line .ensures) _ (c .before .before .before .flow-fault .ensures) (sym (c .before .before .code .ensures) ∙ c .before .if1 .left) .fits)
+add-k c = omega (arith, fits (c .before))
 
 cast-set : tie.Need-cast-set Inv-loop μ-loop
-cast-set c = omega (arith, lines-good _ _ _ _ _ (c .before .before .before .before .before .before .loop .inv .1) (c .before .before .before .before .before .loop-test .taken) _ (c .before .before .before .before .flow-line .ensures) _ (c .before .before .before .flow-fault .ensures) (sym (c .before .before .code .ensures) ∙ c .before .if1 .left) .fits)
+cast-set c = omega (arith, fits (c .before))
 
 loop-less : tie.Need-loop-less Inv-loop μ-loop
-loop-less c = omega (arith, lines-on _ _ _ _ _ (c .before .before .before .before .before .before .loop .inv .1) (c .before .before .before .before .before .loop-test .taken) _ (c .before .before .before .before .flow-line .ensures) _ (c .before .before .before .flow-fault .ensures) (sym (c .before .before .code .ensures) ∙ c .before .if1 .left))
+loop-less c = let j = c .before in omega (arith, lines-on (next-line (j .before .before)) (passed j))
 
 loop-again : tie.Need-loop-again Inv-loop μ-loop
-loop-again c = (c .before .before .before .before .before .before .loop .inv .0, lines-more _ _ _ _ _ (c .before .before .before .before .before .before .loop .inv .1) (c .before .before .before .before .before .loop-test .taken) _ (c .before .before .before .before .flow-line .ensures) _ (c .before .before .before .flow-fault .ensures) (sym (c .before .before .code .ensures) ∙ c .before .if1 .left) _ (c .flow-of .ensures))
-
-answer-requires-2 : tie.Need-answer-requires-2 Inv-loop μ-loop
-answer-requires-2 c κs = search needs
+loop-again c =
+    let j = c .before in
+    (j .before .before .before .before .before .loop .inv .0, lines-more (next-line (j .before .before)) (passed j) _ (c .flow-of .ensures))
 
 returns-2 : tie.Need-returns-2 Inv-loop μ-loop
-returns-2 c = c .answer2 .ensures ∙ lines-done _ _ _ _ _ (c .before .before .loop .inv .1) (c .before .loop-test .left)
+returns-2 c = c .reading-of2 .ensures ∙ lines-done _ _ _ _ _ (c .before .before .loop .inv .1) (c .before .loop-test .left)
 
 pub read-flows-spec : {M : Type 1} → statement M
 read-flows-spec =
@@ -76,13 +83,14 @@ read-flows-spec =
     (tie.spec
     Inv-loop
     μ-loop
-    blank-requires
+    (λ c κs. search needs)
+    (λ c κs. search needs)
     loop-holds
-    flow-line-requires
-    flow-fault-requires
-    code-requires
-    line-of-requires
-    answer-requires
+    (λ c κs. search needs)
+    (λ c κs. search needs)
+    (λ c κs. search needs)
+    (λ c κs. search needs)
+    (λ c κs. search needs)
     returns
     flow-of-requires
     mul-flow
@@ -91,5 +99,5 @@ read-flows-spec =
     cast-set
     loop-less
     loop-again
-    answer-requires-2
+    (λ c κs. search needs)
     returns-2)

@@ -18,27 +18,9 @@ Inv-loop out₀ at s n place₀ k₀ out place k = (length (s .flows) ≡ mostFl
 abbrev μ-loop : tie.MeasureT-loop
 μ-loop out₀ at s n place₀ k₀ out place k = n - k
 
-used-flows-requires : tie.Need-used-flows-requires Inv-loop μ-loop
-used-flows-requires c κs = search needs
-
 loop-holds : tie.Need-loop-holds Inv-loop μ-loop
 unfolding flowLines
 loop-holds c = (simp length-map at (c .before .before .good .1 .1 .0 .1 .1 .1 .1 .0 .1 .0 .1), c .used-flows .ensures .0, putting-start _ _ _ _ refl (omega arith))
-
-mul-put-flow : tie.Need-mul-put-flow Inv-loop μ-loop
-mul-put-flow c = search needs
-
-element-copy-out-put-flow : tie.Need-element-copy-out-put-flow Inv-loop μ-loop
-element-copy-out-put-flow c = search needs
-
-put-flow-requires : tie.Need-put-flow-requires Inv-loop μ-loop
-put-flow-requires c κs = search needs
-
-add-k : tie.Need-add-k Inv-loop μ-loop
-add-k c = search needs
-
-loop-less : tie.Need-loop-less Inv-loop μ-loop
-loop-less c = search needs
 
 loop-again : tie.Need-loop-again Inv-loop μ-loop
 loop-again c =
@@ -60,13 +42,13 @@ put-flows-spec =
     (tie.spec
     Inv-loop
     μ-loop
-    used-flows-requires
+    (λ c κs. search needs)
     loop-holds
-    mul-put-flow
-    element-copy-out-put-flow
-    put-flow-requires
-    add-k
-    loop-less
+    (λ c. search needs)
+    (λ c. search needs)
+    (λ c κs. search needs)
+    (λ c. search needs)
+    (λ c. search needs)
     loop-again
     same-length
     returns)

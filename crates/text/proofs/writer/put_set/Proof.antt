@@ -6,24 +6,6 @@ use borrow.Author.Needs.{needs}
 use Rattle.text.proofs.writer.put_set.Statement.{statement}
 use Rattle.text.proofs.writer.put_set.Tie as tie
 
-cast-bits : tie.Need-cast-bits
-cast-bits c = search needs
-
-slice-aggregate-put-line : tie.Need-slice-aggregate-put-line
-slice-aggregate-put-line c = search needs
-
-slice-aggregate-put-line-2 : tie.Need-slice-aggregate-put-line-2
-slice-aggregate-put-line-2 c = search needs
-
-put-line-requires : tie.Need-put-line-requires
-put-line-requires c κs = search needs
-
-put-flows-requires : tie.Need-put-flows-requires
-put-flows-requires c κs = search needs
-
-same-length : tie.Need-same-length
-same-length c = search needs
-
 returns : tie.Need-returns
 returns c =
     let s = c .before .before .before .before .before .before .before .before .before .before .before .before .args .s in
@@ -34,10 +16,10 @@ pub put-set-spec : {M : Type 1} → statement M
 put-set-spec =
     tie.close
     (tie.spec
-    cast-bits
-    slice-aggregate-put-line
-    slice-aggregate-put-line-2
-    put-line-requires
-    put-flows-requires
-    same-length
+    (λ c. search needs)
+    (λ c. search needs)
+    (λ c. search needs)
+    (λ c κs. search needs)
+    (λ c κs. search needs)
+    (λ c. search needs)
     returns)

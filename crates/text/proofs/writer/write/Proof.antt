@@ -1,32 +1,29 @@
--- `write` asks the record check, and then the room decides. Assumes nothing.
+-- `write` asks the record check, and then the room decides; any record that it is handed is held in arrays of their lengths and numbers of
+-- 16 bits, of which the round trip is proved. Assumes nothing.
 use mathlib.Core.Path.{sym, _∙_}
-use Rattle.text.specs.Writing.{write-refused, write-accepted}
+use borrow.Author.Tests.{not-true, not-false}
+use Rattle.text.specs.HeldByCode.{set-held}
+use Rattle.text.specs.RoundTrip.{read-again}
+use Rattle.text.specs.WriteAnswers.{write-refused, write-accepted}
 use borrow.Author.Needs.{needs}
 use Rattle.text.proofs.writer.write.Statement.{statement}
 use Rattle.text.proofs.writer.write.Tie as tie
 
-record-fault-requires : tie.Need-record-fault-requires
-record-fault-requires c κs = search needs
-
-code-requires : tie.Need-code-requires
-code-requires c κs = search needs
-
 returns : tie.Need-returns
-returns c = let a = write-refused _ _ _ (c .before .before .record-fault .ensures) (λ q. c .if1 .taken (c .before .code .ensures ∙ q)) in (a .answer, a .bytes)
-
-write-text-requires : tie.Need-write-text-requires
-write-text-requires c κs = search needs
-
-same-length : tie.Need-same-length
-same-length c = search needs
+returns c =
+    let o = c .before .before .before .before in
+    let a = write-refused _ _ _ (c .before .before .record-fault .ensures) (not-true _ (sym (c .before .refuses .ensures) ∙ c .if1 .taken)) in
+    (a .answer, (a .bytes, read-again (o .args .s) (set-held (o .args .s) _ (o .good .0))))
 
 returns-2 : tie.Need-returns-2
 returns-2 c =
+    let asked = c .before .before .before .before in
+    let o = asked .before .before .before .before in
     let t = c .before .before .write-text .ensures in
-    let a = write-accepted _ _ _ (c .before .before .before .before .before .before .record-fault .ensures) (sym (c .before .before .before .before .before .code .ensures) ∙ c .before .before .before .before .if1 .left) _ _ (t .0) (t .1) in
-    (a .answer, a .bytes)
+    let a = write-accepted _ _ _ (asked .before .before .record-fault .ensures) (not-false _ (sym (asked .before .refuses .ensures) ∙ asked .if1 .left)) _ _ (t .0) (t .1) in
+    (a .answer, (a .bytes, read-again (o .args .s) (set-held (o .args .s) _ (o .good .0))))
 
 pub write-spec : {M : Type 1} → statement M
 write-spec =
     tie.close
-    (tie.spec record-fault-requires code-requires returns write-text-requires same-length returns-2)
+    (tie.spec (λ c κs. search needs) (λ c κs. search needs) returns (λ c κs. search needs) (λ c. search needs) returns-2)

@@ -1,0 +1,133 @@
+-- Grids of numbers, one for each pair of flows: row k, column l, in rows of as many columns as a set may have flows. Rows of one number for each flow.
+-- Both are filled place by place: what is written is there, and what was there before stays.
+use mathlib.Core.Path.{_≡_, refl, _∙_}
+use mathlib.Core.Bool.{cond}
+use mathlib.Core.Logic.{_⊎_, _≢_, inl, inr}
+use mathlib.Core.List.{List}
+use Prim.Native.Nat.{ℕ, _+_, _*_, _≤_, _<_, zero, suc}
+use lib.Dec.{eqb}
+use lib.ListN.{length, getD, set, replicate, length-set, length-replicate}
+use Rattle.model.specs.declared.kinds.FlowSet.{FlowSet}
+use Rattle.model.specs.Limits.{mostFlows}
+use Rattle.model.specs.Sets.{flowAt}
+use Rattle.document.specs.Delay.{conflictWork}
+use native.Mathlib.Decide.{decLe, ℕ-discrete}
+use native.Mathlib.Omega.{arith}
+use lib.Seq.{getD-set-same, getD-set-other}
+
+-- row k, column l
+abbrev pub pairAt : List ℕ → ℕ → ℕ → ℕ
+pairAt t k l = getD t (k * mostFlows + l) 0
+
+-- nothing of a flow itself
+abbrev pub ofOther : ℕ → ℕ → ℕ → ℕ
+ofOther k l x = cond (eqb l k) 0 x
+
+-- S of a pair
+abbrev pub conflictOf : FlowSet → ℕ → ℕ → ℕ
+conflictOf s k l = conflictWork (flowAt s k) (flowAt s l)
+
+-- the rows before k hold f, as far as column n; all else is 0
+pub record RowsTo (f : ℕ → ℕ → ℕ) (n k : ℕ) (t : List ℕ) : Type 0 where
+  pub whole : length t ≡ mostFlows * mostFlows
+  pub row : (i l : ℕ) → i < k → l < n → pairAt t i l ≡ f i l
+  pub none : (i l : ℕ) → l < mostFlows → (k ≤ i) ⊎ (n ≤ l) → pairAt t i l ≡ 0
+
+-- u is t with f in row k, as far as column n; all else is as it was
+pub record RowDone (f : ℕ → ℕ) (n k : ℕ) (t u : List ℕ) : Type 0 where
+  pub whole : length u ≡ mostFlows * mostFlows
+  pub row : (l : ℕ) → l < n → pairAt u k l ≡ f l
+  pub kept : (i l : ℕ) → l < mostFlows → (i ≢ k) ⊎ (n ≤ l) → pairAt u i l ≡ pairAt t i l
+
+-- the first k entries are f; all else is 0
+pub record FilledTo (f : ℕ → ℕ) (k : ℕ) (t : List ℕ) : Type 0 where
+  pub whole : length t ≡ mostFlows
+  pub entry : (i : ℕ) → i < k → getD t i 0 ≡ f i
+  pub none : (i : ℕ) → k ≤ i → getD t i 0 ≡ 0
+
+-- every pair of the set's flows
+abbrev pub GridOf : (FlowSet → ℕ → ℕ → ℕ) → FlowSet → List ℕ → Type 0
+GridOf f s t = RowsTo (f s) (s .count) (s .count) t
+
+-- every flow of the set
+abbrev pub ListOf : (FlowSet → ℕ → ℕ) → FlowSet → List ℕ → Type 0
+ListOf f s t = FilledTo (f s) (s .count) t
+
+pub zeros : (n i : ℕ) → getD {A = ℕ} (replicate n 0) i 0 ≡ 0
+zeros zero i = refl
+zeros (suc n) zero = refl
+zeros (suc n) (suc i) = zeros n i
+
+pub row-start : (f : ℕ → ℕ) (k : ℕ) (t : List ℕ) → length t ≡ mostFlows * mostFlows → RowDone f 0 k t t
+row-start f k t h = record { whole = h; row = λ l i. absurd (omega arith); kept = λ i l j o. refl }
+
+lt-or-eq : (l n : ℕ) → l < n + 1 → (l ≡ n → ⊥) → l < n
+lt-or-eq l n i q =
+    elim (decLe n l) [
+      | yes h ↦ absurd (q (omega arith))
+      | no h ↦ omega arith
+    ]
+
+pub row-next : (f : ℕ → ℕ) (n k : ℕ) (t u : List ℕ) (x : ℕ) → k < mostFlows → n < mostFlows → RowDone f n k t u → x ≡ f n → RowDone f (n + 1) k t (set u (k * mostFlows + n) x)
+row-next f n k t u x hk hn d e =
+    let w = d .whole in
+    let at = k * mostFlows + n in
+    let b : at < length u = omega arith in
+    record {
+      whole = length-set u at x ∙ w;
+      row = λ l i. elim (ℕ-discrete l n) [
+        | yes q ↦ rw q (getD-set-same u at x 0 b ∙ e)
+        | no q ↦ getD-set-other u at (k * mostFlows + l) x 0 (λ z. q (omega arith)) ∙ d .row l (lt-or-eq l n i q)
+      ];
+      kept = λ i l j o. getD-set-other u at (i * mostFlows + l) x 0 (apart i l j o) ∙ d .kept i l j (fewer i l o);
+    }
+  where
+    apart : (i l : ℕ) → l < mostFlows → (i ≢ k) ⊎ (n + 1 ≤ l) → i * mostFlows + l ≢ k * mostFlows + n
+    apart i l j (inl q) = λ z. q (omega arith)
+    apart i l j (inr q) = λ z. omega arith
+
+    fewer : (i l : ℕ) → (i ≢ k) ⊎ (n + 1 ≤ l) → (i ≢ k) ⊎ (n ≤ l)
+    fewer i l (inl q) = inl q
+    fewer i l (inr q) = inr (omega arith)
+
+pub rows-start : (f : ℕ → ℕ → ℕ) (n : ℕ) → RowsTo f n 0 (replicate (mostFlows * mostFlows) 0)
+rows-start f n =
+    record {
+      whole = length-replicate {A = ℕ} (mostFlows * mostFlows) 0;
+      row = λ i l j m. absurd (omega arith);
+      none = λ i l j o. zeros (mostFlows * mostFlows) (i * mostFlows + l);
+    }
+
+pub rows-next : (f : ℕ → ℕ → ℕ) (n k : ℕ) (t u : List ℕ) → n ≤ mostFlows → RowsTo f n k t → RowDone (f k) n k t u → RowsTo f n (k + 1) u
+rows-next f n k t u h r d =
+    record {
+      whole = d .whole;
+      row = λ i l j m. elim (decLe k i) [
+        | yes q ↦ let e : i ≡ k = omega arith in rw e (d .row l m)
+        | no q ↦ d .kept i l (omega arith) (inl (λ z. omega arith)) ∙ r .row i l (omega arith) m
+      ];
+      none = λ i l j o. d .kept i l j (away i l o) ∙ r .none i l j (fewer i l o);
+    }
+  where
+    away : (i l : ℕ) → (k + 1 ≤ i) ⊎ (n ≤ l) → (i ≢ k) ⊎ (n ≤ l)
+    away i l (inl q) = inl (λ z. omega arith)
+    away i l (inr q) = inr q
+
+    fewer : (i l : ℕ) → (k + 1 ≤ i) ⊎ (n ≤ l) → (k ≤ i) ⊎ (n ≤ l)
+    fewer i l (inl q) = inl (omega arith)
+    fewer i l (inr q) = inr q
+
+pub filled-start : (f : ℕ → ℕ) → FilledTo f 0 (replicate mostFlows 0)
+filled-start f = record { whole = length-replicate {A = ℕ} mostFlows 0; entry = λ i l. absurd (omega arith); none = λ i l. zeros mostFlows i }
+
+pub filled-next : (f : ℕ → ℕ) (k : ℕ) (t : List ℕ) (x : ℕ) → k < mostFlows → FilledTo f k t → x ≡ f k → FilledTo f (k + 1) (set t k x)
+filled-next f k t x h r e =
+    let w = r .whole in
+    record {
+      whole = length-set t k x ∙ w;
+      entry = λ i l. elim (decLe k i) [
+        | yes q ↦ let z : i ≡ k = omega arith in rw z (getD-set-same t k x 0 (omega arith) ∙ e)
+        | no q ↦ getD-set-other t k i x 0 (λ z. omega arith) ∙ r .entry i (omega arith)
+      ];
+      none = λ i l. getD-set-other t k i x 0 (λ z. omega arith) ∙ r .none i (omega arith);
+    }

@@ -1,0 +1,147 @@
+-- One flow in one slot by its absolute deadline: a packet's release is a whole number of periods after the start, and so the slot less
+-- the place in the period. Entries beyond the last flow are those of no flow, all 0.
+use mathlib.Core.Path.{_≡_, refl, sym, ap, _∙_, fun-ext}
+use mathlib.Core.Bool.{Bool, true, false, _&&_, _||_, cond, false≢true}
+use mathlib.Core.List.{List, map}
+use Prim.Native.Nat.{ℕ, _+_, _-_, _*_, _/_, _≤_, _<_, min}
+use native.Mathlib.Nat.{div-add-mod', add-zero, mul-le-mul, min-eq-left}
+use native.Mathlib.Decide.{decLe}
+use native.Mathlib.Omega.{arith}
+use borrow.Author.Tests.{eqb-true, eqb-false, eq-eqb, ne-eqb, le-leb, leb-true, ltb-true}
+use lib.Dec.{leb, ltb, eqb}
+use lib.ListN.{getD, take, length-take, length-map, List·getD-eq-default}
+use Rattle.model.specs.declared.kinds.Flow.{Flow}
+use Rattle.model.specs.declared.kinds.FlowSet.{FlowSet}
+use Rattle.model.specs.declared.kinds.State.{State}
+use Rattle.model.specs.Limits.{lastSlot, mostFlows, mostLinks}
+use Rattle.model.specs.Releases.{release-first}
+use Rattle.model.specs.Refusals.{good}
+use Rattle.document.specs.Reader.{recordFault}
+use Rattle.model.specs.Sums.{bit}
+use Rattle.model.specs.Sets.{noFlow, flowAt, exact, used, work}
+use Rattle.document.specs.Delay.{workAt}
+use Rattle.document.specs.Machine.{released, releaseAt, deadlineAt, had, ready, nextCount, countAt, hadAt, readyAt, dueAt, ahead}
+use Rattle.laws.specs.SumLaws.{and-l, and-r}
+use Rattle.laws.specs.Accepted.{GoodFlow, accepted}
+use Rattle.laws.specs.Used.{used-flow, used-count}
+
+-- the absolute deadline of the latest packet, from the start, the period, the deadline and the slot
+abbrev pub dueIn : ℕ → ℕ → ℕ → ℕ → ℕ
+dueIn a p d t = a + (t - a) / p * p + d
+
+-- before the start the first packet's is what is next
+pub due-first : (a p d t : ℕ) → t ≤ a → dueIn a p d t ≡ a + d
+due-first a p d t h = ap (λ (x : ℕ). x + d) (release-first a p t h)
+
+-- a slot of the machine and a count of slots: their sum is far from the last number
+pub sum-fits : (t n : ℕ) → t ≤ lastSlot → n ≤ 65535 → min (t + n) 4294967295 ≡ t + n
+sum-fits t n h k = min-eq-left (omega (arith, h, k))
+
+-- and so is an absolute deadline
+pub due-fits : (a p d t : ℕ) → a ≤ 65535 → d ≤ 65535 → t ≤ lastSlot → min (dueIn a p d t) 4294967295 ≡ dueIn a p d t
+due-fits a p d t f g h = min-eq-left (omega (arith, div-add-mod' (t - a) p, f, g, h))
+
+-- what comes after a number is no smaller one
+pub next-above : (a b : ℕ) → b ≤ a → eqb (a + 1) b ≡ false
+next-above a b h = ne-eqb (a + 1) b (λ e. omega (arith, e, h))
+
+-- a release slot is one whose deadline is D away
+abbrev pub hadIn : ℕ → ℕ → ℕ → ℕ → ℕ
+hadIn due d t n = cond (eqb (t + d) due) 0 n
+
+eqb-add : (a b d : ℕ) → eqb (a + d) (b + d) ≡ eqb a b
+eqb-add a b d = go (eqb a b) refl
+  where
+    go : (c : Bool) → eqb a b ≡ c → eqb (a + d) (b + d) ≡ c
+    go true e = eq-eqb (a + d) (b + d) (ap (λ (x : ℕ). x + d) (eqb-true a b e))
+    go false e = ne-eqb (a + d) (b + d) (λ q. eqb-false a b e (omega arith))
+
+pub had-is : (f : Flow) (t n : ℕ) → hadIn (deadlineAt f t) (f .deadline .0) t n ≡ had f t n
+had-is f t n = ap (λ (b : Bool). cond b 0 n) (eqb-add t (releaseAt f t) (f .deadline .0))
+
+-- ready: released, before its absolute deadline, and short of C
+abbrev pub readyIn : ℕ → ℕ → ℕ → ℕ → ℕ → Bool
+readyIn a due n c t = leb a t && ltb t due && ltb n c
+
+pub ready-is : (f : Flow) (t n : ℕ) → readyIn (f .start) (deadlineAt f t) (had f t n) (work f) t ≡ ready f t n
+unfolding ready
+ready-is f t n = refl
+
+-- a placed packet was released, so the next count is one rule
+pub next-is : (f : Flow) (t n : ℕ) (placed : Bool) → (placed ≡ true → ready f t n ≡ true) → nextCount f t n placed ≡ had f t n + bit placed
+unfolding nextCount ready
+next-is f t n placed r = go (released f t) refl placed refl
+  where
+    go : (b : Bool) → released f t ≡ b → (q : Bool) → placed ≡ q → cond b (had f t n + bit q) n ≡ had f t n + bit q
+    go true e q i = refl
+    go false e true i = absurd (false≢true (sym e ∙ and-l _ _ (and-l _ _ (r i))))
+    go false e false i =
+        let l : t < f .start = rev e in
+        let z : eqb t (releaseAt f t) ≡ false =
+        ne-eqb t (releaseAt f t) (λ (q : t ≡ releaseAt f t). let y = release-first (f .start) (f .period .0) t (omega arith) in omega arith) in
+        rw (z, add-zero)
+      where
+        rev : leb (f .start) t ≡ false → t < f .start
+        rev h = elim (decLe (f .start) t) [ yes d ↦ absurd (false≢true (sym h ∙ le-leb _ _ d)) | no d ↦ omega arith ]
+
+-- what readiness says
+pub ready-if : (f : Flow) (t n : ℕ) → ready f t n ≡ true → (f .start ≤ t) × (t < deadlineAt f t) × (had f t n < work f)
+unfolding ready
+ready-if f t n h =
+    let a : Bool = released f t in
+    let b : Bool = ltb t (deadlineAt f t) in
+    let c : Bool = ltb (had f t n) (work f) in
+    let i = and-l (a && b) c h in
+    (leb-true _ _ (and-l a b i), ltb-true _ _ (and-r a b i), ltb-true _ _ (and-r (a && b) c h))
+
+-- the release is the deadline less D
+pub release-of-due : (f : Flow) (t : ℕ) → deadlineAt f t - f .deadline .0 ≡ releaseAt f t
+release-of-due f t = omega arith
+
+-- beyond the last flow there is none
+pub used-none : (s : FlowSet) (k : ℕ) → s .count ≤ k → flowAt (used s) k ≡ noFlow
+unfolding used
+used-none s k h =
+    List·getD-eq-default (map exact (take (s .count) (s .flows))) noFlow
+    (rw (length-map, length-take) (omega arith))
+
+-- the numbers of a set's flows, each in an array of its own
+pub record Columns (s : FlowSet) (start deadline work : List ℕ) : Type 0 where
+  pub starts : (k : ℕ) → getD start k 0 ≡ flowAt s k .start
+  pub deadlines : (k : ℕ) → getD deadline k 0 ≡ flowAt s k .deadline .0
+  pub works : (k : ℕ) → getD work k 0 ≡ workAt s k
+
+-- each flow's absolute deadline and the transmissions that its packet has had
+pub record Packets (s : FlowSet) (st : State) (due sent : List ℕ) : Type 0 where
+  pub dues : (k : ℕ) → getD due k 0 ≡ dueAt s st k
+  pub hads : (k : ℕ) → getD sent k 0 ≡ hadAt s st k
+
+-- the order by an array of keys, smaller key, then lower flow number; readiness by arrays
+abbrev pub aheadBy : List ℕ → ℕ → ℕ → Bool
+aheadBy key k l = ltb (getD key k 0) (getD key l 0) || (eqb (getD key k 0) (getD key l 0) && ltb k l)
+
+abbrev pub readyBy : List ℕ → List ℕ → List ℕ → List ℕ → ℕ → ℕ → Bool
+readyBy start due sent work t k = readyIn (getD start k 0) (getD due k 0) (getD sent k 0) (getD work k 0) t
+
+-- a ready packet is short of C
+pub ready-work : (start due sent work : List ℕ) (t k : ℕ) → readyBy start due sent work t k ≡ true → getD sent k 0 < getD work k 0
+ready-work start due sent work t k e =
+    ltb-true (getD sent k 0) (getD work k 0) (and-r (leb (getD start k 0) t && ltb t (getD due k 0)) (ltb (getD sent k 0) (getD work k 0)) e)
+
+pub ahead-by : (s : FlowSet) (st : State) (due : List ℕ) → ((k : ℕ) → getD due k 0 ≡ dueAt s st k) → aheadBy due ≡ ahead s st
+ahead-by s st due h = ap by (fun-ext h)
+  where
+    by : (ℕ → ℕ) → ℕ → ℕ → Bool
+    by f k l = ltb (f k) (f l) || (eqb (f k) (f l) && ltb k l)
+
+pub ready-by : (s : FlowSet) (st : State) (start deadline work due sent : List ℕ) → Columns s start deadline work → Packets s st due sent
+    → readyBy start due sent work (st .slot .0) ≡ readyAt s st
+ready-by s st start deadline work due sent t v =
+    fun-ext (λ k. rw (t .starts k, v .dues k, v .hads k, t .works k) (ready-is (flowAt s k) (st .slot .0) (countAt st k)))
+
+-- what the record check's acceptance says of the record itself
+pub accepted-count : (s : FlowSet) → good (recordFault (used s) .refusal) ≡ true → s .count ≤ mostFlows
+accepted-count s h = rw (← used-count s) (accepted (used s) h .count-le)
+
+pub accepted-flow : (s : FlowSet) → good (recordFault (used s) .refusal) ≡ true → (k : ℕ) → k < s .count → GoodFlow (exact (flowAt s k))
+accepted-flow s h k l = rw (used-flow s k l) at (accepted (used s) h .flow k (rw (used-count s) l))

@@ -1,0 +1,10 @@
+-- `is_too_long` is the definition's test. Assumes nothing.
+use mathlib.Core.Path.{refl}
+use Rattle.plan_text.proofs.lines.is_too_long.Statement.{statement}
+use Rattle.plan_text.proofs.lines.is_too_long.Tie as tie
+
+returns : tie.Need-returns
+returns c = refl
+
+pub is-too-long-spec : {M : Type 1} → statement M
+is-too-long-spec = tie.close (tie.spec returns)

@@ -1,0 +1,26 @@
+-- `bounds_of_reading` goes by whether the reader refuses; a flow number that is cut to the count has the same answer. Assumes nothing.
+use mathlib.Core.Path.{ap, _∙_}
+use Rattle.model.specs.Sets.{used}
+use Rattle.document.specs.Delay.{boundsOf}
+use Rattle.document.specs.ForC.{boundsOfReading}
+use Rattle.planner.specs.FlowBeyondLast.{bounds-cut}
+use Rattle.planner.specs.Refuses.{accepts, refuses}
+use borrow.Author.Needs.{needs}
+use Rattle.planner.proofs.answers.bounds_of_reading.Statement.{statement}
+use Rattle.planner.proofs.answers.bounds_of_reading.Tie as tie
+
+returns : tie.Need-returns
+unfolding boundsOfReading
+returns c = rw (refuses (c .before .before .before .before .args .reading .fault) (c .before .before .refuses .ensures) (c .before .if1 .taken)) (c .refused-bounds .ensures)
+
+returns-2 : tie.Need-returns-2
+unfolding boundsOfReading
+returns-2 c =
+    let a = c .before .before .before .before .before .before .args in
+    rw (accepts (a .reading .fault) (c .before .before .before .before .refuses .ensures) (c .before .before .before .if1 .left))
+    (c .bounds .ensures ∙ ap (boundsOf (used (a .reading .set))) (c .before .flow-number .ensures) ∙ bounds-cut (a .reading .set) (a .flow))
+
+pub bounds-of-reading-spec : {M : Type 1} → statement M
+bounds-of-reading-spec =
+    tie.close
+    (tie.spec (λ c κs. search needs) (λ c κs. search needs) returns (λ c κs. search needs) (λ c κs. search needs) returns-2)

@@ -1,0 +1,57 @@
+-- `slot_of_reading` is refused before the step, or writes the step; both are what the definition says. Assumes nothing.
+use mathlib.Core.Path.{ap, _∙_}
+use Rattle.model.specs.declared.kinds.State.{State}
+use Rattle.model.specs.Sets.{used}
+use Rattle.document.specs.Machine.{stepOf}
+use Rattle.planner.specs.Refuses.{accepts, refuses}
+use Rattle.planner.specs.SlotIsStep.{PassedBefore, answered-before, state-whole, step-answered}
+use Rattle.planner.specs.StateBytes.{state-in}
+use borrow.Author.Needs.{needs}
+use Rattle.planner.proofs.slots.slot_of_reading.Statement.{statement}
+use Rattle.planner.proofs.slots.slot_of_reading.Tie as tie
+
+returns : tie.Need-returns
+returns c =
+    let b = c .before .before .before in
+    let a = b .before .before .before .args in
+    let f = b .fault-before-step .result in
+    let g = refuses f (c .before .before .refuses .ensures) (c .before .if1 .taken) in
+    let w = answered-before (a .reading) (a .state .now) (a .lines .now) f (b .fault-before-step .ensures) g in
+    (c .refused-writing .ensures ∙ w .0, w .1)
+
+returns-2 : tie.Need-returns-2
+returns-2 c =
+    let v = c .before .before .before .before in
+    let p = v .before .before .before in
+    let o = p .before in
+    let l = o .before .before .before in
+    let b = l .before .before in
+    let s = b .before .before .before in
+    let a = s .args in
+    let f = b .fault-before-step .result in
+    let q : PassedBefore (a .reading) (a .state .now) f =
+    record {
+      fault-is = b .fault-before-step .ensures;
+      passed = accepts f (l .before .refuses .ensures) (l .if1 .left);
+      bits = s .good .0 .1 .1 .1 .0 .1 .1 .0 .1 .1 .0 .1;
+    } in
+    let e = state-whole (a .reading) (a .state .now) f q in
+    let step-is = p .step .ensures ∙ ap (λ (st : State). stepOf (used (a .reading .set)) st) (o .state-of .ensures ∙ state-in (a .state .now) e) in
+    let w = v .write-step .ensures in
+    let z = step-answered (a .reading) (a .state .now) f q (p .step .result) (a .lines .now) step-is in
+    (w .0 ∙ z .0, (w .1 .0 ∙ z .1 .0, w .1 .1 ∙ z .1 .1))
+
+pub slot-of-reading-spec : {M : Type 1} → statement M
+slot-of-reading-spec =
+    tie.close
+    (tie.spec
+    (λ c κs. search needs)
+    (λ c κs. search needs)
+    (λ c κs. search needs)
+    returns
+    (λ c κs. search needs)
+    (λ c κs. search needs)
+    (λ c κs. search needs)
+    (λ c. search needs)
+    (λ c. search needs)
+    returns-2)

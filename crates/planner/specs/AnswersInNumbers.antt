@@ -1,0 +1,41 @@
+-- An answer in numbers is the answer with document 01's number for its refusal.
+use mathlib.Core.Path.{_≡_}
+use Prim.Native.Nat.{ℕ}
+use lib.IntN.{ℤ}
+use Rattle.model.specs.declared.answers.Verdict.{Verdict}
+use Rattle.model.specs.declared.answers.Bounds.{Bounds}
+use Rattle.model.specs.declared.answers.Written.{Written}
+use Rattle.model.specs.Refusals.{refusalNumber}
+use Rattle.model.specs.Sums.{bit}
+use Rattle.model.specs.declared.answers.VerdictAnswer.{VerdictAnswer}
+use Rattle.model.specs.declared.answers.BoundsAnswer.{BoundsAnswer}
+use Rattle.model.specs.declared.answers.SlotAnswer.{SlotAnswer}
+use Rattle.document.specs.ForC.{boundsNumbers, slotNumbers, verdictNumbers}
+
+abbrev verdictWith : Verdict → ℕ → ℕ → ℕ → VerdictAnswer
+verdictWith v n b t = record { refusal = n; line = v .fault .line; basic = b; tightened = t; rounds = v .rounds }
+
+pub verdict-numbers : (v : Verdict) (n b t : ℕ) → n ≡ refusalNumber (v .fault .refusal) → b ≡ bit (v .basic) → t ≡ bit (v .tightened)
+    → verdictWith v n b t ≡ verdictNumbers v
+verdict-numbers v n b t e f g = rw (e, f, g)
+
+abbrev boundsWith : Bounds → ℕ → ℤ → BoundsAnswer
+boundsWith b n m =
+    record {
+      refusal = n;
+      line = b .fault .line;
+      work = b .work;
+      basic = b .basic;
+      tightened = b .tightened;
+      deadline = b .deadline .0;
+      margin = m;
+    }
+
+pub bounds-numbers : (b : Bounds) (n : ℕ) (m : ℤ) → n ≡ refusalNumber (b .fault .refusal) → m ≡ b .margin → boundsWith b n m ≡ boundsNumbers b
+bounds-numbers b n m e f = rw (e, f)
+
+abbrev slotWith : Written → ℕ → SlotAnswer
+slotWith w n = record { refusal = n; line = w .fault .line; length = w .length }
+
+pub slot-numbers : (w : Written) (n : ℕ) → n ≡ refusalNumber (w .fault .refusal) → slotWith w n ≡ slotNumbers w
+slot-numbers w n e = rw e
