@@ -1,24 +1,31 @@
 -- Document 01, "Sets on either side of a line": P1 to P11, with all that the document says of each, in one table under one theorem; and
--- rows of our own, for what no P says: what C is answered.
+-- rows of our own, for what no P says: starts, several tries beside another flow, offsets, deliveries, the refusals that are only run, a
+-- state's bytes, buffers, what C is answered.
 -- The sets are their texts, run through the reader's definition; the checker computes the rest.
 use mathlib.Core.{Bool.{Bool, true, false, not, _&&_, cond}, List.{List, [], _∷_, _++_}}
 use Prim.Native.{Char.{code}, Nat.{ℕ, zero, suc, _+_}}
 use Prim.Native.String as string
-use lib.{Count.{ones, onesIn}, Dec.{eqb, T}, IntN.{ℤ, pos, negsuc}, ListN.{getD}}
+use lib.{Count.{ones, onesIn}, Dec.{eqb, T}, IntN.{ℤ, pos, negsuc}, ListN.{getD, length, take, replicate}}
 use Rattle.model.specs.declared.kinds.FlowSet.{FlowSet}
-use Rattle.model.specs.declared.answers.{Reading.{Reading}, Send.{Send}, VerdictAnswer.{VerdictAnswer}, BoundsAnswer.{BoundsAnswer}}
-use Rattle.model.specs.{Refusals.{refusalNumber}, Sums.{sumTo, anyTo, allTo}, Sets.{used, anyOf, meet, listTo, filterTo}}
+use Rattle.model.specs.declared.answers.{Fault.{Fault}, Reading.{Reading}, Send.{Send}, Delivery.{Delivery}, Stepped.{Stepped}, Written.{Written}}
+use Rattle.model.specs.declared.answers.{VerdictAnswer.{VerdictAnswer}, BoundsAnswer.{BoundsAnswer}, SlotAnswer.{SlotAnswer}}
+use Rattle.model.specs.{Refusals.{refusalNumber}, Sums.{sumTo, anyTo, allTo}, Sets.{flowAt, used, anyOf, meet, listTo, filterTo}}
 use Rattle.document.specs.Text.{same, lines, ended, fields, allDigits, valueFrom, isNumber, allNumbers, valuesOf, wellFormed, numbersOf, decimalIn, decimal, tabbed, decimals, lineOf}
-use Rattle.document.specs.Reader.{twice, flowFault, flowsFault, recordFault, flowOf, withFlow, firstLineFault, flowLineFault, readFlows, setOf, readLines, readText, flowLines, textOf}
+use Rattle.document.specs.Reader.{twice, flowFault, flowsFault, recordFault, flowOf, withFlow, firstLineFault, flowLineFault, readFlows, setOf, readLines, readText, flowLines, textOf, pad, writeFault, writeAnswer, writeInto}
 use Rattle.document.specs.Delay.{conflictWork, share, overOthers, boundWith, basicBound, valueAt, deadlines, lowered, roundTo, roundsIn, reached, tightBound, admits, verdictOf, boundsFault, boundsOf}
-use Rattle.document.specs.Machine.{ready, nextCount, insert, ordered, place, channelsTo, radioChannel, sendOf, sendsFrom, sendsAt, deliveriesOf, droppedAt, badState, stepFault, runOf, countWith, deliveredWith, droppedWith, nextWith, placedWith, runWith, stepWith}
-use Rattle.document.specs.Program.{sendNumbers, sendLines, signed, boundLines, runLines, planOf, planText}
-use Rattle.document.specs.ForC.{verdictOfReading, boundsOfReading, verdictForC, boundsForC}
+use Rattle.document.specs.Machine.{ready, nextCount, insert, ordered, place, channelsTo, radioChannel, sendOf, sendsFrom, sendsAt, deliveriesOf, droppedAt, badState, stepFault, stepOf, runOf, countWith, deliveredWith, droppedWith, nextWith, placedWith, runWith, stepWith}
+use Rattle.document.specs.Program.{stateLength, stateBytes, stateOf, sendNumbers, sendLines, slotLines, slotFault, slotState, slotBuffer, boundLines, runLines, planOf, planText}
+use Rattle.document.specs.ForC.{verdictOfReading, boundsOfReading, slotAnswer, verdictForC, boundsForC, slotForC}
 
 -- the bytes of a quoted text
 unfoldable pub bytes : string.String → List ℕ
 bytes string.[] = []
 bytes (string._∷_ c s) = code c ∷ bytes s
+
+-- of one text after the other
+unfoldable pub bytesOf : List string.String → List ℕ
+bytesOf [] = []
+bytesOf (l ∷ ls) = bytes l ++ bytesOf ls
 
 -- what the document says of a set
 pub data Claim : Type 0 where
@@ -32,9 +39,18 @@ pub data Claim : Type 0 where
   sends : ℕ → List (List ℕ) → Claim  -- the first slots of the run: slot, flow, from, to, try, radio channel
   flowsIn : ℕ → List ℕ → Claim  -- a slot of the run, and the flows that it sends
   drops : ℕ → List ℕ → Claim  -- a slot of the run, and the flows that it drops
-  plan : string.String → Claim  -- what the plan program prints
+  plan : List string.String → Claim  -- what the plan program prints, line by line
   verdictC : List ℕ → Claim  -- what C is answered: refusal, line, basic, tightened, rounds
   boundsC : ℕ → List ℕ → ℤ → Claim  -- flow; refusal, line, C, basic, tightened, deadline; margin
+  -- one slot for C: the state's first bytes, before zeros; the buffer; refusal, line, length; the state and the buffer after it
+  slotC : List ℕ → string.String → List ℕ → List ℕ → string.String → Claim
+  badLength : ℕ → List ℕ → Claim  -- a state of this many zeros, and a buffer of none: refusal, line, length
+  -- a slot of the run: its sends with their offsets, before the channel; flow and delay of its deliveries; its drops
+  report : ℕ → List (List ℕ) → List (List ℕ) → List ℕ → Claim
+  lineOfFlow : ℕ → string.String → ℕ → Claim  -- a flow's number, its line and the refusal of it
+  copies : ℕ → ℕ → ℕ → Claim  -- a record of this many copies of flow 0: refusal number, line
+  writes : string.String → List ℕ → string.String → Claim  -- the buffer; refusal, line, length; the buffer after it
+  planOfZeros : ℕ → string.String → Claim  -- what the program prints for this many bytes 0
 
 sameRows : List (List ℕ) → List (List ℕ) → Bool
 sameRows [] [] = true
@@ -60,24 +76,64 @@ verdictRow v = v .refusal ∷ v .line ∷ v .basic ∷ v .tightened ∷ v .round
 boundsRow : BoundsAnswer → List ℕ
 boundsRow b = b .refusal ∷ b .line ∷ b .work ∷ b .basic ∷ b .tightened ∷ b .deadline ∷ []
 
+writtenRow : Written → List ℕ
+writtenRow w = refusalNumber (w .fault .refusal) ∷ w .fault .line ∷ w .length ∷ []
+
+slotRow : SlotAnswer → List ℕ
+slotRow a = a .refusal ∷ a .line ∷ a .length ∷ []
+
+offsetRows : List Send → List (List ℕ)
+offsetRows [] = []
+offsetRows (x ∷ xs) = (x .slot .0 ∷ x .flow ∷ x .from ∷ x .to ∷ x .attempt ∷ x .offset ∷ x .channel ∷ []) ∷ offsetRows xs
+
+deliveryRows : List Delivery → List (List ℕ)
+deliveryRows [] = []
+deliveryRows (x ∷ xs) = (x .flow ∷ x .delay .0 ∷ []) ∷ deliveryRows xs
+
+reportHolds : Stepped → List (List ℕ) → List (List ℕ) → List ℕ → Bool
+reportHolds a xs ds ks =
+    sameRows (offsetRows (take (a .sends) (a .sent))) xs
+    && sameRows (deliveryRows (take (a .deliveries) (a .delivered))) ds
+    && same (take (a .drops) (a .dropped)) ks
+
 same? : Bool → Bool → Bool
 same? true b = b
 same? false b = not b
 
+-- the same number with the same sign
+sameSigned : ℤ → ℤ → Bool
+sameSigned (pos m) (pos n) = eqb m n
+sameSigned (pos m) (negsuc n) = false
+sameSigned (negsuc m) (pos n) = false
+sameSigned (negsuc m) (negsuc n) = eqb m n
+
+faultIs : Fault → ℕ → ℕ → Bool
+faultIs f n l = eqb (refusalNumber (f .refusal)) n && eqb (f .line) l
+
 holds : List ℕ → Reading → FlowSet → Claim → Bool
-holds text r s (refused n l) = eqb (refusalNumber (r .fault .refusal)) n && eqb (r .fault .line) l
+holds text r s (refused n l) = faultIs (r .fault) n l
 holds text r s written = same (textOf s) text
 holds text r s (basics bs) = same (listTo (λ k. boundsOf s k .basic) (s .count)) bs
 holds text r s (tights bs) = same (listTo (λ k. boundsOf s k .tightened) (s .count)) bs
 holds text r s (verdict b t) = same? (verdictOf s .basic) b && same? (verdictOf s .tightened) t
 holds text r s (rounds n) = eqb (verdictOf s .rounds) n
-holds text r s (margin k m) = same (signed (boundsOf s k .margin)) (signed m)
+holds text r s (margin k m) = sameSigned (boundsOf s k .margin) m
 holds text r s (sends n xs) = sameRows (rowsTo s n) xs
 holds text r s (flowsIn t ks) = same (flowsOf (sendsAt s (runOf s t .last))) ks
 holds text r s (drops t ks) = same (filterTo (droppedAt s (runOf s t .last)) (s .count)) ks
-holds text r s (plan p) = same (planText text) (bytes p)
+holds text r s (plan p) = same (planText text) (bytesOf p)
 holds text r s (verdictC ns) = same (verdictRow (verdictForC text)) ns
-holds text r s (boundsC k ns m) = same (boundsRow (boundsForC text k)) ns && same (signed (boundsForC text k .margin)) (signed m)
+holds text r s (boundsC k ns m) = same (boundsRow (boundsForC text k)) ns && sameSigned (boundsForC text k .margin) m
+holds text r s (slotC st b ns st' b') =
+    same (slotRow (slotForC text (pad stateLength st) (length (bytes b)))) ns
+    && same (slotState r (pad stateLength st) (length (bytes b))) (pad stateLength st')
+    && same (slotBuffer r (pad stateLength st) (bytes b)) (bytes b')
+holds text r s (badLength n ns) = same (slotRow (slotForC text (replicate n 0) 0)) ns
+holds text r s (report t xs ds ks) = reportHolds (stepOf s (runOf s t .last)) xs ds ks
+holds text r s (lineOfFlow k l n) = eqb (refusalNumber (flowLineFault k (bytes l))) n
+holds text r s (copies n f l) = faultIs (recordFault (used (record { map = s .map; count = n; flows = replicate n (flowAt s 0) }))) f l
+holds text r s (writes b ns b') = same (writtenRow (writeAnswer s (length (bytes b)))) ns && same (writeInto s (bytes b)) (bytes b')
+holds text r s (planOfZeros n p) = same (planText (replicate n 0)) (bytes p)
 
 allHold : List ℕ → Reading → List Claim → Bool
 allHold text r [] = true
@@ -115,7 +171,18 @@ points =
     ∷ (11 ∷ 0 ∷ 2 ∷ 3 ∷ 0 ∷ 12 ∷ [])
     ∷ []
     )
-    ∷ plan "verdict\t1\t1\t3\nbound\t0\t2\t4\t2\t8\t6\nbound\t1\t2\t6\t6\t20\t14\nsend\t0\t0\t1\t2\t0\t11\nsend\t1\t0\t2\t3\t0\t12\nsend\t2\t1\t4\t2\t0\t11\nsend\t3\t1\t2\t5\t0\t12\nsend\t10\t0\t1\t2\t0\t11\nsend\t11\t0\t2\t3\t0\t12\n"
+    ∷ plan
+    ("verdict\t1\t1\t3\n"
+    ∷ "bound\t0\t2\t4\t2\t8\t6\n"
+    ∷ "bound\t1\t2\t6\t6\t20\t14\n"
+    ∷ "send\t0\t0\t1\t2\t0\t11\n"
+    ∷ "send\t1\t0\t2\t3\t0\t12\n"
+    ∷ "send\t2\t1\t4\t2\t0\t11\n"
+    ∷ "send\t3\t1\t2\t5\t0\t12\n"
+    ∷ "send\t10\t0\t1\t2\t0\t11\n"
+    ∷ "send\t11\t0\t2\t3\t0\t12\n"
+    ∷ []
+    )
     ∷ []
     )
     ∷ point "set\t3\nflow\t10\t3\t0\t1\t1\t2\t3\nflow\t20\t20\t0\t1\t4\t2\t5\n"
@@ -210,10 +277,97 @@ points =
     )
     ∷ point "set\t0\n"
     (verdictC (2 ∷ 1 ∷ 0 ∷ 0 ∷ 0 ∷ [])
+    ∷ badLength 67 (2 ∷ 1 ∷ 0 ∷ [])
+    ∷ writes "......" (2 ∷ 1 ∷ 0 ∷ []) "......"
+    ∷ plan ("refused\t2\t1\n" ∷ [])
+    ∷ []
+    )
+    -- ours: starts, a map with a gap, tries beside other flows, offsets, deliveries and their delays, a negative margin
+    ∷ point "set\t5\nflow\t11\t11\t2\t2\t4\t1\t2\nflow\t9\t4\t5\t1\t1\t2\t3\nflow\t12\t6\t1\t3\t8\t9\n"
+    (refused 0 0
+    ∷ written
+    ∷ basics (9 ∷ 7 ∷ 6 ∷ [])
+    ∷ tights (9 ∷ 5 ∷ 6 ∷ [])
+    ∷ verdict false false
+    ∷ rounds 2
+    ∷ margin 1 (negsuc 0)
+    ∷ report 0 [] [] []
+    ∷ report 3 ((3 ∷ 2 ∷ 8 ∷ 9 ∷ 2 ∷ 0 ∷ 13 ∷ []) ∷ (3 ∷ 0 ∷ 4 ∷ 1 ∷ 1 ∷ 1 ∷ 11 ∷ []) ∷ []) ((2 ∷ 3 ∷ []) ∷ []) []
+    ∷ report 15
+    ((15 ∷ 1 ∷ 2 ∷ 3 ∷ 0 ∷ 0 ∷ 13 ∷ []) ∷ (15 ∷ 2 ∷ 8 ∷ 9 ∷ 2 ∷ 1 ∷ 11 ∷ []) ∷ [])
+    ((1 ∷ 2 ∷ []) ∷ (2 ∷ 3 ∷ []) ∷ [])
+    []
+    ∷ plan
+    ("verdict\t0\t0\t2\n"
+    ∷ "bound\t0\t4\t9\t9\t11\t2\n"
+    ∷ "bound\t1\t2\t7\t5\t4\t-1\n"
+    ∷ "bound\t2\t3\t6\t6\t6\t0\n"
+    ∷ "send\t1\t2\t8\t9\t0\t13\n"
+    ∷ "send\t2\t2\t8\t9\t1\t11\n"
+    ∷ "send\t2\t0\t4\t1\t0\t13\n"
+    ∷ "send\t3\t2\t8\t9\t2\t13\n"
+    ∷ "send\t3\t0\t4\t1\t1\t11\n"
+    ∷ "send\t4\t0\t1\t2\t0\t11\n"
+    ∷ "send\t5\t1\t1\t2\t0\t13\n"
+    ∷ "send\t6\t1\t2\t3\t0\t11\n"
+    ∷ "send\t7\t0\t1\t2\t1\t13\n"
+    ∷ []
+    )
+    ∷ []
+    )
+    -- ours: rounds that used old entries would be six
+    ∷ point "set\t1\nflow\t11\t11\t0\t2\t4\t1\t2\nflow\t9\t4\t0\t1\t1\t2\t3\n"
+    (basics (8 ∷ 6 ∷ [])
+    ∷ tights (6 ∷ 2 ∷ [])
+    ∷ verdict false true
+    ∷ rounds 4
+    ∷ []
+    )
+    -- ours: no flows; the refusals of a flow's line; input that is too long
+    ∷ point "set\t1\n"
+    (verdict true true
+    ∷ rounds 1
+    ∷ writes "......" (0 ∷ 0 ∷ 6 ∷ []) "set\t1\n"
+    ∷ writes "........" (0 ∷ 0 ∷ 6 ∷ []) "set\t1\n.."
+    ∷ writes "....." (10 ∷ 0 ∷ 0 ∷ []) "....."
+    ∷ lineOfFlow 63 "flow\t10\t1\t0\t1\t1\t2\n" 0
+    ∷ lineOfFlow 64 "flow\t10\t1\t0\t1\t1\t2\n" 3
+    ∷ lineOfFlow 64 "flow\t0\t1\t0\t1\t1\t2\n" 3
+    ∷ lineOfFlow 64 "flow\t0\t1\t0\t1\t1\t2" 1
+    ∷ lineOfFlow 0 "flow\t0\t0\t0\t0\n" 4
+    ∷ lineOfFlow 0 "flow\t10\t0\t0\t0\n" 5
+    ∷ lineOfFlow 0 "flow\t10\t11\t0\t1\t1\t2\n" 5
+    ∷ lineOfFlow 0 "flow\t10\t10\t0\t0\n" 6
+    ∷ lineOfFlow 0 "flow\t10\t10\t0\t5\t1\t2\n" 6
+    ∷ lineOfFlow 0 "flow\t10\t10\t0\t4\t1\t2\n" 0
+    ∷ lineOfFlow 0 "flow\t10\t10\t0\t1\n" 7
+    ∷ lineOfFlow 0 "flow\t10\t10\t0\n" 1
+    ∷ lineOfFlow 0 "flow\t10\t10\t0\t1\t1\n" 7
+    ∷ lineOfFlow 0 "flow\t16\t16\t0\t1\t0\t1\t2\t3\t4\t5\t6\t7\t8\t9\t10\t11\t12\t13\t14\t15\t16\n" 0
+    ∷ lineOfFlow 0 "flow\t16\t16\t0\t1\t0\t1\t2\t3\t4\t5\t6\t7\t8\t9\t10\t11\t12\t13\t14\t15\t16\t16\n" 7
+    ∷ planOfZeros 16384 "refused\t1\t1\n"
+    ∷ planOfZeros 16385 "refused\t10\t0\n"
+    ∷ []
+    )
+    -- ours: P1 slot by slot for C, with the refusals 10 to 12; and records of many flows
+    ∷ point "set\t3\nflow\t10\t8\t0\t1\t1\t2\t3\nflow\t20\t20\t0\t1\t4\t2\t5\n"
+    (slotC [] "......................" (0 ∷ 0 ∷ 18 ∷ []) (1 ∷ 0 ∷ 0 ∷ 0 ∷ 1 ∷ []) "send\t0\t0\t1\t2\t0\t11\n...."
+    ∷ slotC [] "................." (10 ∷ 0 ∷ 0 ∷ []) [] "................."
+    ∷ slotC (2 ∷ 1 ∷ 0 ∷ 0 ∷ 2 ∷ 1 ∷ []) "...................." (0 ∷ 0 ∷ 20 ∷ []) (3 ∷ 1 ∷ 0 ∷ 0 ∷ 2 ∷ 2 ∷ [])
+    "send\t258\t1\t2\t5\t0\t11\n"
+    ∷ slotC (255 ∷ 39 ∷ 107 ∷ 238 ∷ 2 ∷ 2 ∷ []) "." (0 ∷ 0 ∷ 0 ∷ []) (0 ∷ 40 ∷ 107 ∷ 238 ∷ 2 ∷ 2 ∷ []) "."
+    ∷ slotC (0 ∷ 40 ∷ 107 ∷ 238 ∷ 2 ∷ 2 ∷ []) "." (11 ∷ 0 ∷ 0 ∷ []) (0 ∷ 40 ∷ 107 ∷ 238 ∷ 2 ∷ 2 ∷ []) "."
+    ∷ slotC (0 ∷ 40 ∷ 107 ∷ 238 ∷ 3 ∷ 2 ∷ []) "." (12 ∷ 0 ∷ 0 ∷ []) (0 ∷ 40 ∷ 107 ∷ 238 ∷ 3 ∷ 2 ∷ []) "."
+    ∷ slotC (1 ∷ 40 ∷ 107 ∷ 238 ∷ 2 ∷ 2 ∷ []) "." (12 ∷ 0 ∷ 0 ∷ []) (1 ∷ 40 ∷ 107 ∷ 238 ∷ 2 ∷ 2 ∷ []) "."
+    ∷ slotC (0 ∷ 0 ∷ 0 ∷ 0 ∷ 0 ∷ 0 ∷ 1 ∷ []) "" (12 ∷ 0 ∷ 0 ∷ []) (0 ∷ 0 ∷ 0 ∷ 0 ∷ 0 ∷ 0 ∷ 1 ∷ []) ""
+    ∷ badLength 67 (12 ∷ 0 ∷ 0 ∷ [])
+    ∷ badLength 69 (12 ∷ 0 ∷ 0 ∷ [])
+    ∷ copies 64 0 0
+    ∷ copies 65 3 66
     ∷ []
     )
     ∷ []
 
 pub every-point : T (every points)
-unfolding every points point allHold holds same? rowsTo flowsOf rows sameRows bytes same lines ended fields allDigits valueFrom isNumber allNumbers valuesOf wellFormed numbersOf decimalIn decimal tabbed decimals lineOf twice flowFault flowsFault recordFault flowOf withFlow firstLineFault flowLineFault readFlows setOf readLines readText flowLines textOf conflictWork share overOthers boundWith basicBound valueAt deadlines lowered roundTo roundsIn reached tightBound admits verdictOf boundsFault boundsOf ready nextCount insert ordered place placedWith channelsTo radioChannel sendOf sendsFrom countWith deliveredWith deliveriesOf droppedWith nextWith badState stepFault stepWith runWith sendLines boundLines runLines planOf planText verdictOfReading boundsOfReading verdictForC boundsForC verdictRow boundsRow sumTo anyTo allTo used anyOf meet listTo filterTo ones onesIn
+unfolding every points point allHold holds same? sameSigned faultIs writtenRow slotRow offsetRows deliveryRows reportHolds rowsTo flowsOf rows sameRows bytes bytesOf same lines ended fields allDigits valueFrom isNumber allNumbers valuesOf wellFormed numbersOf decimalIn decimal tabbed decimals lineOf twice flowFault flowsFault recordFault flowOf withFlow firstLineFault flowLineFault readFlows setOf readLines readText flowLines textOf writeFault writeAnswer writeInto conflictWork share overOthers boundWith basicBound valueAt deadlines lowered roundTo roundsIn reached tightBound admits verdictOf boundsFault boundsOf ready nextCount insert ordered place placedWith channelsTo radioChannel sendOf sendsFrom countWith deliveredWith deliveriesOf droppedWith nextWith badState stepFault stepWith runWith stateBytes stateOf sendLines slotLines slotFault slotState slotBuffer boundLines runLines planOf planText verdictOfReading boundsOfReading slotAnswer verdictForC boundsForC slotForC verdictRow boundsRow sumTo anyTo allTo used anyOf meet listTo filterTo ones onesIn
 every-point = tt

@@ -9,11 +9,12 @@ use native.Mathlib.Omega.{arith}
 use borrow.Author.Tests.{leb-true, le-leb}
 use lib.Dec.{leb, ltb, eqb}
 use Rattle.model.specs.declared.kinds.FlowSet.{FlowSet}
-use Rattle.model.specs.Sums.{allTo}
+use Rattle.model.specs.Sums.{allTo, sumTo}
 use Rattle.model.specs.Refusals.{good}
-use Rattle.model.specs.Sets.{flowAt}
+use Rattle.model.specs.Sets.{flowAt, listTo}
+use Rattle.document.specs.Text.{same}
 use Rattle.document.specs.Reader.{recordFault}
-use Rattle.document.specs.Delay.{ways, period, deadline, workAt, wholePackets, share, wholeShare, conflictShare, overOthers, boundWith, basicBound, valueAt, Greatest, deadlines, mostRounds, reached, tightBound, admits, verdictIf, verdictOf, boundsIf, boundsFault, boundsOf}
+use Rattle.document.specs.Delay.{ways, period, deadline, workAt, wholePackets, share, wholeShare, conflictShare, overOthers, boundWith, basicBound, valueAt, Greatest, deadlines, roundTo, roundsIn, mostRounds, reached, tightBound, admits, verdictIf, verdictOf, boundsIf, boundsFault, boundsOf}
 use Rattle.laws.specs.SumLaws.{sum-le, sum-const, and-l, and-r, and-i}
 use Rattle.laws.specs.Accepted.{Accepted, accepted, work-small}
 use Rattle.laws.specs.Values.{sums-le}
@@ -81,6 +82,14 @@ basic-then-tightened s = go (good (recordFault s .refusal))
     go : (b : Bool) → verdictIf s b .basic ≡ true → verdictIf s b .tightened ≡ true
     go true e = admits-le s (basicBound s) (tightBound s) (tight-le-basic s) e
     go false e = e
+
+-- with no flows both tests admit, after one round that changes nothing
+pub no-flows-admit : (s : FlowSet) → s .count ≡ 0 → good (recordFault s .refusal) ≡ true
+    → (verdictOf s .basic ≡ true) × (verdictOf s .tightened ≡ true) × (verdictOf s .rounds ≡ 1)
+unfolding verdictOf admits allTo reached roundsIn deadlines listTo sumTo roundTo same
+no-flows-admit s e g =
+    let v : verdictOf s ≡ verdictIf s true = ap (verdictIf s) g in
+    rw (v, e) (refl, refl, refl)
 
 -- no sum passes 32 bits: with 16-bit deadlines each bound of an accepted set is at most 268,435,520
 pub work-le-most : (s : FlowSet) → Accepted s → (k : ℕ) → k < s .count → workAt s k ≤ 64
