@@ -34,6 +34,9 @@ extern "C" {
 /* A state is this many bytes: the slot in four bytes, lowest first, then a count byte for each of 64 flows. The fresh state is all zeros. */
 #define REMBASUK_STATE_LENGTH 68
 
+/* The `send` lines of one slot have at most this many bytes: 16 lines of 36. A buffer of this length is never refused as too short. */
+#define REMBASUK_LINES_LENGTH 576
+
 /* How many bytes of stack a call may use: the verdict and the bounds, and the slot. */
 #define REMBASUK_VERDICT_STACK 262144
 #define REMBASUK_SLOT_STACK 32768

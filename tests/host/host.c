@@ -10,6 +10,8 @@
 
 #include "rembasuk.h"
 
+#include "busy.h"
+
 static int failures;
 static int checks;
 
@@ -272,6 +274,31 @@ static void refused_slots(int at_end)
     CHECK(bounds_of(P1, strlen(P1), 0xffffffffu, at_end).refusal == 13);
 }
 
+/* ---- the longest lines of a slot: 16 sends of 36 bytes */
+
+static void longest_lines(uint32_t slot, int at_end)
+{
+    static char text[4096], out[REMBASUK_LINES_LENGTH + 1];
+    size_t length = busy_set(text), i;
+    int ends = 0;
+    uint8_t state[REMBASUK_STATE_LENGTH], before[REMBASUK_STATE_LENGTH];
+    rembasuk_slot_answer a;
+    CHECK(verdict_of(text, length, at_end).basic == 1);
+    put_slot(state, slot);
+    memcpy(before, state, sizeof state);
+    /* `slot_of` checks that a refusal leaves every byte of both buffers as it was */
+    a = slot_of(text, length, state, sizeof state, NULL, REMBASUK_LINES_LENGTH - 1, at_end);
+    CHECK(a.refusal == 10 && a.line == 0 && memcmp(state, before, sizeof state) == 0);
+    a = slot_of(text, length, state, sizeof state, out, REMBASUK_LINES_LENGTH, at_end);
+    CHECK(a.refusal == 0 && a.length == REMBASUK_LINES_LENGTH);
+    for (i = 0; i < a.length; i++) {
+        ends += out[i] == '\n';
+    }
+    CHECK(ends == 16 && out[a.length - 1] == '\n' && memcmp(out, "send\t", 5) == 0);
+    put_slot(before, slot + 1);
+    CHECK(memcmp(state, before, 4) == 0);
+}
+
 static void empty_buffers(void)
 {
     uint8_t state[REMBASUK_STATE_LENGTH] = {0};
@@ -300,6 +327,8 @@ int main(void)
         p1_bounds(at_end);
         refused_texts(at_end);
         refused_slots(at_end);
+        longest_lines(1000000000u, at_end);
+        longest_lines(3999999998u, at_end);
     }
     empty_buffers();
     printf("host: %d checks, %d failed\n", checks, failures);
