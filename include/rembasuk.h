@@ -1,25 +1,31 @@
 /* Rembasuk: admission and slot schedule of wireless flows, earliest deadline first.
  *
- * Every function here is proved to do what the definitions in crates/model/specs and crates/document/specs say, for every input: no call can fail
- * otherwise than by one of the refusal numbers below, and every call ends.
+ * Every function below is proved to do what the definitions in crates/model/specs and crates/document/specs say, for every input: no call
+ * can fail otherwise than by one of the refusals below, and every call ends. docs/FORMAT.md explains the texts, README.md what is proved.
  *
- * A set of flows is handed over as text: lines ended by LF, fields parted by one tab.
+ * A SET of flows is handed over as text: lines ended by LF, fields parted by one tab.
  *     set   MAP                                    the channel map, bit i for IEEE 802.15.4 channel 11 + i
  *     flow  T  D  a  TRIES  NODE  NODE ..          period, deadline, start, tries, route of 2 to 17 nodes; at most 64 such lines
- * Numbers are decimal, 0 to 65535, without sign or leading zero.
+ * Numbers are decimal, 0 to 65535, without sign or leading zero. Flows are numbered from 0 in order of their lines, tries from 0.
+ * Each call reads the whole text again and keeps nothing of it. Call rembasuk_verdict once, before the first slot.
  *
- * Refusal numbers (0: not refused), with the text's line counted from 1, or 0 from 10 on:
- *      1 the line lacks this form            2 map 0                         3 a 65th flow
- *      4 period 0                            5 deadline 0 or above period    6 tries outside 1 to 4
- *      7 fewer than 2 or more than 17 nodes  8 a node twice in one route     9 links x tries above the deadline
- *     10 the lent buffer is too short       11 the state is at the last slot, 4000000000
- *     12 the state is bad: its slot is above the last, a count is above its flow's, or its length is not 68
- *     13 no flow of that number
+ * WHAT ADMISSION PROMISES. If a test admits the set, and the slots are made one after the other from the fresh state, each once, each
+ * call with the same text and with the state that the call before left, then up to slot 4000000000 (463 days of 10 ms) no packet is
+ * dropped; each is sent C = links x tries times within its bound by that test, and its bound is at most its deadline; in no slot is a node
+ * an end of two transmissions or a channel used twice. A transmission is a reserved slot: that it is heard is not promised. A host that
+ * leaves out a slot, makes one twice, changes the state or the set, or starts in the middle, is answered as the definitions say and has
+ * not this promise.
  *
- * Memory: the caller owns every buffer. A function reads and writes only the bytes lent, keeps no pointer, and allocates nothing.
+ * A STATE belongs to one set. A call checks no more than that its counts fit the set's flows (12), so the state of another set may pass;
+ * whoever changes the set begins with the fresh state.
+ *
+ * THE LAST SLOT. The slot before 4000000000 is made like any other and leaves a state at slot 4000000000; from that state every call is
+ * refused with 11. A host that runs for longer begins again with the fresh state, when it can do without the packets under way.
+ *
+ * MEMORY. The caller owns every buffer. A function reads and writes only the bytes lent, keeps no pointer, and allocates nothing.
  * A buffer of length 0 may be NULL. The areas lent to one call must not overlap.
  * The functions have no state of their own: they may be called from several threads on separate buffers.
- * Stack: rembasuk_verdict and rembasuk_bounds want 256 kilobytes free, rembasuk_slot 32; tests/host/stack.c measures it.
+ * The stack that a call may use is said by REMBASUK_VERDICT_STACK and REMBASUK_SLOT_STACK; tests/host/stack.c measures it.
  */
 #ifndef REMBASUK_H
 #define REMBASUK_H
@@ -31,7 +37,32 @@
 extern "C" {
 #endif
 
-/* A state is this many bytes: the slot in four bytes, lowest first, then a count byte for each of 64 flows. The fresh state is all zeros. */
+/* The version. These three lines are its one source: the Makefile and the pkg-config file take it from here. */
+#define REMBASUK_VERSION_MAJOR 0
+#define REMBASUK_VERSION_MINOR 1
+#define REMBASUK_VERSION_PATCH 0
+
+/* The version as a text, "0.1.0", and as a number that grows, 100 for it. */
+#define REMBASUK_QUOTED_(major, minor, patch) #major "." #minor "." #patch
+#define REMBASUK_QUOTED(major, minor, patch) REMBASUK_QUOTED_(major, minor, patch)
+#define REMBASUK_VERSION REMBASUK_QUOTED(REMBASUK_VERSION_MAJOR, REMBASUK_VERSION_MINOR, REMBASUK_VERSION_PATCH)
+#define REMBASUK_VERSION_NUMBER (REMBASUK_VERSION_MAJOR * 10000 + REMBASUK_VERSION_MINOR * 100 + REMBASUK_VERSION_PATCH)
+
+/* The limits of a set and of a run. */
+#define REMBASUK_MOST_FLOWS 64
+#define REMBASUK_MOST_NODES 17         /* of a route */
+#define REMBASUK_MOST_LINKS 16         /* of a route */
+#define REMBASUK_MOST_TRIES 4          /* of a link */
+#define REMBASUK_MOST_CHANNELS 16      /* sends of one slot are as many at most */
+#define REMBASUK_FIRST_CHANNEL 11      /* bit 0 of the map */
+#define REMBASUK_LAST_SLOT 4000000000u /* no slot is made from here on */
+
+/* The longest text that is accepted, and the longest input of the program `plan`, in bytes. */
+#define REMBASUK_TEXT_LENGTH 8138
+#define REMBASUK_INPUT_LENGTH 16384
+
+/* A state is this many bytes: the slot in four bytes, lowest first, then a count byte for each of 64 flows: how many transmissions its
+ * latest packet has had. The fresh state is all zeros. */
 #define REMBASUK_STATE_LENGTH 68
 
 /* The `send` lines of one slot have at most this many bytes: 16 lines of 36. A buffer of this length is never refused as too short. */
@@ -41,12 +72,52 @@ extern "C" {
 #define REMBASUK_VERDICT_STACK 262144
 #define REMBASUK_SLOT_STACK 32768
 
+/* The refusals by number, as the answers have them. 1 to 9 name the text's line, counted from 1; the others line 0. */
+typedef enum {
+    REMBASUK_NOT_REFUSED = 0,
+    REMBASUK_BAD_FORM = 1,       /* the line lacks its form: a wrong word or number, blanks for tabs, CR, no LF at the end, empty text */
+    REMBASUK_NO_CHANNEL = 2,     /* map 0 */
+    REMBASUK_TOO_MANY_FLOWS = 3, /* a 65th flow */
+    REMBASUK_BAD_PERIOD = 4,     /* period 0 */
+    REMBASUK_BAD_DEADLINE = 5,   /* deadline 0 or above the period */
+    REMBASUK_BAD_TRIES = 6,      /* tries outside 1 to 4 */
+    REMBASUK_BAD_ROUTE = 7,      /* fewer than 2 or more than 17 nodes */
+    REMBASUK_NODE_TWICE = 8,     /* a node twice in one route */
+    REMBASUK_TOO_MUCH_WORK = 9,  /* links x tries above the deadline */
+    REMBASUK_NO_ROOM = 10,       /* the lent buffer is shorter than what is to be written */
+    REMBASUK_AT_LAST_SLOT = 11,  /* the state is at slot 4000000000 */
+    REMBASUK_BAD_STATE = 12,     /* its slot is above the last, a count is above its flow's C or beyond the last flow, or it has not 68 bytes */
+    REMBASUK_NO_SUCH_FLOW = 13   /* no flow of that number */
+} rembasuk_refusal;
+
+/* A refusal in English, for whoever typed the set; any number is answered. */
+static inline const char *rembasuk_refusal_text(uint32_t refusal)
+{
+    switch (refusal) {
+    case REMBASUK_NOT_REFUSED: return "not refused";
+    case REMBASUK_BAD_FORM: return "the line lacks the form of a set's text";
+    case REMBASUK_NO_CHANNEL: return "the channel map is 0";
+    case REMBASUK_TOO_MANY_FLOWS: return "there are more than 64 flows";
+    case REMBASUK_BAD_PERIOD: return "the period is 0";
+    case REMBASUK_BAD_DEADLINE: return "the deadline is 0 or above the period";
+    case REMBASUK_BAD_TRIES: return "the tries are not 1 to 4";
+    case REMBASUK_BAD_ROUTE: return "the route has fewer than 2 or more than 17 nodes";
+    case REMBASUK_NODE_TWICE: return "a node stands twice in the route";
+    case REMBASUK_TOO_MUCH_WORK: return "links times tries are above the deadline";
+    case REMBASUK_NO_ROOM: return "the lent buffer is too short";
+    case REMBASUK_AT_LAST_SLOT: return "the state is at the last slot";
+    case REMBASUK_BAD_STATE: return "the bytes are no state of this set";
+    case REMBASUK_NO_SUCH_FLOW: return "the set has no flow of that number";
+    default: return "unknown refusal";
+    }
+}
+
 /* What the two delay tests say of a set. A refused verdict has zeros from `basic` on. */
 typedef struct {
     uint32_t refusal;   /* 0, or 1 to 9 */
     uint32_t line;      /* the line that is refused, or 0 */
     uint32_t basic;     /* 1 if the basic test admits the set */
-    uint32_t tightened; /* 1 if the tightened test admits it */
+    uint32_t tightened; /* 1 if the tightened test admits it; it admits whatever the basic test admits */
     uint32_t rounds;    /* how many rounds the tightened test took */
 } rembasuk_verdict_answer;
 
@@ -78,7 +149,7 @@ rembasuk_bounds_answer rembasuk_bounds(const uint8_t *text, size_t text_length, 
  * On success the next state stands in the 68 bytes of `state`, the slot's lines
  *     send  SLOT  FLOW  FROM  TO  TRY  CHANNEL
  * stand at the start of `lines`, and the further bytes of `lines` stay as they were. An idle slot has no line and needs no room.
- * On any refusal neither buffer changes. Refusals: 1 to 9, then 12, 11, 10. */
+ * On any refusal neither buffer changes, so a host that overlooks one stands still. Refusals: 1 to 9, then 12, 11, 10. */
 rembasuk_slot_answer rembasuk_slot(const uint8_t *text, size_t text_length, uint8_t *state, size_t state_length, uint8_t *lines,
                                    size_t lines_length);
 

@@ -299,6 +299,52 @@ static void longest_lines(uint32_t slot, int at_end)
     CHECK(memcmp(state, before, 4) == 0);
 }
 
+/* ---- the header's limits: each is good, one more is refused */
+
+/* A set of so many flows with so many nodes of five digits and so many tries, every number as long as it can be. */
+static size_t large_set(char *text, int flows, int nodes, int tries)
+{
+    int k, i;
+    char *at = text + sprintf(text, "set\t65535\n");
+    for (k = 0; k < flows; k++) {
+        at += sprintf(at, "flow\t65535\t65535\t65535\t%d", tries);
+        for (i = 0; i < nodes; i++) {
+            at += sprintf(at, "\t%d", 10000 + i);
+        }
+        at += sprintf(at, "\n");
+    }
+    return (size_t)(at - text);
+}
+
+static void limits(int at_end)
+{
+    static char text[REMBASUK_INPUT_LENGTH];
+    const int flows = REMBASUK_MOST_FLOWS, nodes = REMBASUK_MOST_NODES, tries = REMBASUK_MOST_TRIES;
+    char out[64];
+    uint8_t state[REMBASUK_STATE_LENGTH] = {0};
+    size_t length = large_set(text, flows, nodes, tries);
+    CHECK(length == REMBASUK_TEXT_LENGTH && verdict_of(text, length, at_end).refusal == REMBASUK_NOT_REFUSED);
+    CHECK(bounds_of(text, length, REMBASUK_MOST_FLOWS - 1, at_end).work == REMBASUK_MOST_LINKS * REMBASUK_MOST_TRIES);
+    length = large_set(text, flows + 1, 2, 1);
+    refused_text(text, length, REMBASUK_TOO_MANY_FLOWS, REMBASUK_MOST_FLOWS + 2, at_end);
+    length = large_set(text, 1, nodes + 1, 1);
+    refused_text(text, length, REMBASUK_BAD_ROUTE, 2, at_end);
+    length = large_set(text, 1, 2, tries + 1);
+    refused_text(text, length, REMBASUK_BAD_TRIES, 2, at_end);
+    put_slot(state, REMBASUK_LAST_SLOT);
+    CHECK(slot_refusal(state, sizeof state, 0, at_end) == REMBASUK_AT_LAST_SLOT);
+    put_slot(state, REMBASUK_LAST_SLOT + 1);
+    CHECK(slot_refusal(state, sizeof state, 0, at_end) == REMBASUK_BAD_STATE);
+    /* the lowest and the highest channel */
+    put_slot(state, 0);
+    length = (size_t)sprintf(text, "set\t1\nflow\t9\t9\t0\t1\t1\t2\n");
+    CHECK(slot_of(text, length, state, sizeof state, out, 32, at_end).length == 18 && atoi(out + 15) == REMBASUK_FIRST_CHANNEL);
+    put_slot(state, 0);
+    length = (size_t)sprintf(text, "set\t32768\nflow\t9\t9\t0\t1\t1\t2\n");
+    CHECK(slot_of(text, length, state, sizeof state, out, 32, at_end).length == 18);
+    CHECK(atoi(out + 15) == REMBASUK_FIRST_CHANNEL + REMBASUK_MOST_CHANNELS - 1);
+}
+
 static void empty_buffers(void)
 {
     uint8_t state[REMBASUK_STATE_LENGTH] = {0};
@@ -327,6 +373,7 @@ int main(void)
         p1_bounds(at_end);
         refused_texts(at_end);
         refused_slots(at_end);
+        limits(at_end);
         longest_lines(1000000000u, at_end);
         longest_lines(3999999998u, at_end);
     }

@@ -1,0 +1,49 @@
+/* The header in every C from C99 and every C++ from C++98: tests/host/run compiles this file as each, with all warnings, and runs it. */
+#include "rembasuk.h"
+#include "rembasuk.h" /* twice is once */
+
+#include <stdio.h>
+#include <string.h>
+
+#if REMBASUK_VERSION_NUMBER != REMBASUK_VERSION_MAJOR * 10000 + REMBASUK_VERSION_MINOR * 100 + REMBASUK_VERSION_PATCH
+#error "the version's number"
+#endif
+#if REMBASUK_LAST_SLOT != 4000000000u || REMBASUK_MOST_NODES != REMBASUK_MOST_LINKS + 1 || REMBASUK_STATE_LENGTH != 4 + REMBASUK_MOST_FLOWS
+#error "the limits"
+#endif
+#if REMBASUK_LINES_LENGTH != 36 * REMBASUK_MOST_CHANNELS || REMBASUK_TEXT_LENGTH > REMBASUK_INPUT_LENGTH
+#error "the lengths"
+#endif
+
+int main(void)
+{
+    uint32_t i, j;
+    char version[64];
+    const rembasuk_refusal last = REMBASUK_NO_SUCH_FLOW;
+    const char *set = "set\t1\nflow\t10\t2\t0\t1\t1\t2\n";
+    rembasuk_verdict_answer v = rembasuk_verdict((const uint8_t *)set, strlen(set));
+    rembasuk_bounds_answer b = rembasuk_bounds((const uint8_t *)set, strlen(set), 1);
+    uint8_t state[REMBASUK_STATE_LENGTH], lines[REMBASUK_LINES_LENGTH];
+    rembasuk_slot_answer s;
+    memset(state, 0, sizeof state);
+    s = rembasuk_slot((const uint8_t *)set, strlen(set), state, sizeof state, lines, sizeof lines);
+    if (v.refusal != REMBASUK_NOT_REFUSED || b.refusal != REMBASUK_NO_SUCH_FLOW || s.refusal != REMBASUK_NOT_REFUSED || s.length != 18) {
+        puts("header: a call is answered otherwise");
+        return 1;
+    }
+    sprintf(version, "%d.%d.%d", REMBASUK_VERSION_MAJOR, REMBASUK_VERSION_MINOR, REMBASUK_VERSION_PATCH);
+    if (strcmp(version, REMBASUK_VERSION) != 0) {
+        puts("header: the version's text");
+        return 1;
+    }
+    /* each number has a text of its own, and every other number the same one */
+    for (i = 0; i <= (uint32_t)last + 1; i++) {
+        for (j = 0; j < i; j++) {
+            if (strcmp(rembasuk_refusal_text(i), rembasuk_refusal_text(j)) == 0) {
+                puts("header: two refusals with one text");
+                return 1;
+            }
+        }
+    }
+    return strcmp(rembasuk_refusal_text(0xffffffffu), rembasuk_refusal_text((uint32_t)last + 1)) != 0;
+}

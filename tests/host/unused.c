@@ -1,0 +1,7 @@
+/* The header alone, nothing of it used: no warning either. */
+#include "rembasuk.h"
+
+int main(void)
+{
+    return 0;
+}
