@@ -18,6 +18,7 @@ test: all
 	tests/plan/run
 	tests/host/run
 	tests/install/run
+	tests/examples/run
 	tests/requests/run
 
 # An archive is built, and its crate proved, again only where something that it is made of is newer; a folder is newer where a file was
