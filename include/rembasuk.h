@@ -1,7 +1,8 @@
 /* Rembasuk: admission and slot schedule of wireless flows, earliest deadline first.
  *
- * Every function below is proved to do what the definitions in crates/model/specs and crates/document/specs say, for every input: no call
- * can fail otherwise than by one of the refusals below, and every call ends. docs/FORMAT.md explains the texts, README.md what is proved.
+ * The functions of the library are proved to do what the definitions in crates/model/specs and crates/document/specs say, for every input:
+ * no call can fail otherwise than by one of the refusals below, and every call ends. docs/FORMAT.md explains the texts, README.md what is
+ * proved and what not.
  *
  * A SET of flows is handed over as text: lines ended by LF, fields parted by one tab.
  *     set   MAP                                    the channel map, bit i for IEEE 802.15.4 channel 11 + i
@@ -90,7 +91,7 @@ typedef enum {
     REMBASUK_NO_SUCH_FLOW = 13   /* no flow of that number */
 } rembasuk_refusal;
 
-/* A refusal in English, for whoever typed the set; any number is answered. */
+/* A refusal in English, for whoever typed the set; any number is answered. Plain C of this header, not of the library. */
 static inline const char *rembasuk_refusal_text(uint32_t refusal)
 {
     switch (refusal) {
