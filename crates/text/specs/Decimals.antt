@@ -27,6 +27,11 @@ unfoldable pub top : ℕ → ℕ
 top zero = 10
 top (suc k) = top k * 10
 
+top-least : (k : ℕ) → 10 ≤ top k
+unfolding top
+top-least zero = omega arith
+top-least (suc k) = omega (arith, top-least k)
+
 -- more room for digits than there are changes nothing
 decimal-room : (k n : ℕ) → n < top k → decimalIn (suc (suc k)) n ≡ decimalIn (suc k) n
 unfolding top
@@ -50,32 +55,26 @@ decimal-more n h l = more-digits 9 n h ∙ ap (λ (d : List ℕ). d ++ ((48 + n 
 pub decimal-size : (n : ℕ) → 10 ≤ n → n < tenDigits → length (decimal n) ≡ length (decimal (n / 10)) + 1
 decimal-size n h l = ap length (decimal-more n h l) ∙ length-append (decimal (n / 10)) _
 
--- a count of digits: those counted, with those of what is left, are the number's
-pub record DigitsCounted (v n digits : ℕ) : Type 0 where
-  pub sum : digits + length (decimal n) ≡ length (decimal v) + 1
-  pub small : n < tenDigits
-  pub least : 1 ≤ length (decimal n)
+-- a number from the first of k + 2 digits to the last
+pub size-is : (k n : ℕ) → top k ≤ n → n < top k * 10 → n < tenDigits → length (decimal n) ≡ k + 2
+unfolding top
+size-is zero n l h t = omega (arith, decimal-size n l t, ap length (decimal-one (n / 10) (omega arith)))
+size-is (suc k) n l h t =
+    omega (arith, decimal-size n (omega (arith, top-least k)) t, size-is k (n / 10) (omega arith) (omega arith) (omega arith))
 
-pub digits-least : (n : ℕ) → n < tenDigits → 1 ≤ length (decimal n)
-digits-least n h =
-    elim (decLe 10 n) [
-      | yes l ↦ omega (arith, decimal-size n l h)
-      | no l ↦ omega (arith, ap length (decimal-one n (omega arith)))
-    ]
-
-pub counted-start : (v : ℕ) → v < tenDigits → DigitsCounted v v 1
-counted-start v h = record { sum = omega arith; small = h; least = digits-least v h }
-
-pub counted-more : (v n digits : ℕ) → DigitsCounted v n digits → 10 ≤ n → DigitsCounted v (n / 10) (digits + 1)
-counted-more v n digits c h =
-    record {
-      sum = omega (arith, c .sum, decimal-size n h (c .small));
-      small = omega (arith, c .small);
-      least = digits-least (n / 10) (omega (arith, c .small));
-    }
-
-pub counted-done : (v n digits : ℕ) → DigitsCounted v n digits → n < 10 → digits ≡ length (decimal v)
-counted-done v n digits c h = omega (arith, c .sum, ap length (decimal-one n h))
+-- five digits more than those of what is left without the last five
+pub size-five : (n : ℕ) → 100000 ≤ n → n < tenDigits → length (decimal n) ≡ 5 + length (decimal (n / 100000))
+size-five n l h =
+    let e : n / 10 / 10 / 10 / 10 / 10 ≡ n / 100000 = omega arith in
+    decimal-size n (omega arith) h
+    ∙ omega (
+      arith,
+      decimal-size (n / 10) (omega arith) (omega arith),
+      decimal-size (n / 10 / 10) (omega arith) (omega arith),
+      decimal-size (n / 10 / 10 / 10) (omega arith) (omega arith),
+      decimal-size (n / 10 / 10 / 10 / 10) (omega arith) (omega arith),
+      ap (λ (m : ℕ). length (decimal m)) e,
+    )
 
 -- a number has at most ten digits
 digits-most : (k n : ℕ) → length (decimalIn k n) ≤ k

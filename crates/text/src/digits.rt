@@ -1,7 +1,7 @@
 // A number's decimal digits, stored into a lent buffer as far as it goes.
 ghost use mathlib.Core.Path.{_≡_};
 ghost use lib.ListN.{length, set};
-ghost use Prim.Native.Nat.{_+_, _≤_};
+ghost use Prim.Native.Nat.{_+_, _<_, _≤_};
 ghost use Rattle.document.specs.Text.{decimal};
 ghost use lib.Seq.{sets};
 
@@ -14,17 +14,34 @@ pub fn put_at(out: &mut [u8], at: usize, b: u8)
     }
 }
 
-// How many digits a number has.
+// How many digits a number of at most five has.
+fn width_to_five(v: u32) -> usize
+    requires { ⌜ v < 100000 ⌝ }
+    ensures { λ r. ⌜ (r ≡ length (decimal v)) × (r ≤ 5) ⌝ }
+{
+    if v < 10 {
+        return 1;
+    }
+    if v < 100 {
+        return 2;
+    }
+    if v < 1000 {
+        return 3;
+    }
+    if v < 10000 {
+        return 4;
+    }
+    5
+}
+
+// How many digits a number has, by comparisons: a set's numbers have at most five, and a longer one is divided once.
 fn width(v: u32) -> usize
     ensures { λ r. ⌜ (r ≡ length (decimal v)) × (r ≤ 10) ⌝ }
 {
-    let mut n = v;
-    let mut digits = 1usize;
-    while 10 <= n {
-        n = n / 10;
-        digits += 1;
+    if v < 100000 {
+        return width_to_five(v);
     }
-    digits
+    5 + width_to_five(v / 100000)
 }
 
 // A digit's byte: its value above that of `0`.
