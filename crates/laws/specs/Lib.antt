@@ -2,6 +2,7 @@ pub mod SumLaws
 pub mod Members
 pub mod RadioChannels
 pub mod Padded
+pub mod Taken
 pub mod Used
 pub mod Accepted
 pub mod Values

@@ -1,6 +1,6 @@
 // Rule 8 of document 01: whether a node stands twice in a route.
 ghost use mathlib.Core.Path.{_≡_};
-ghost use Prim.Native.Nat.{_%_, _<_, _≤_};
+ghost use Prim.Native.Nat.{_≤_, min};
 ghost use lib.ListN.{drop, take};
 ghost use Rattle.model.specs.Sets.{memb};
 ghost use Rattle.model.specs.Limits.{mostNodes};
@@ -43,17 +43,28 @@ fn stands_later(
     stands_from(route, node, from, n)
 }
 
+// How many of the first n nodes of a route there are: none beyond the array.
+fn nodes_in(n: usize) -> usize
+    ensures { λ r. ⌜ (r ≡ min n mostNodes) × (r ≤ mostNodes) ⌝ }
+{
+    if n <= Flow::MOST_NODES {
+        n
+    } else {
+        Flow::MOST_NODES
+    }
+}
+
 // Rule 8: a node twice among the first n of a route, looked for from the last node to the first.
 pub fn repeats(route: [u16; Flow::MOST_NODES], n: usize) -> bool
-    requires { ⌜ n ≤ mostNodes ⌝ }
     ensures { λ r. ⌜ r ≡ twice (take n route) ⌝ }
 {
+    let end = nodes_in(n);
     let mut seen = [0u8; 256];
-    let mut i = n;
+    let mut i = end;
     while 0 < i {
         let at = i - 1;
         let node = route[at];
-        if stands_later(route, &seen, node, at + 1, n) {
+        if stands_later(route, &seen, node, at + 1, end) {
             return true;
         }
         let mark = (node % 256) as usize;
