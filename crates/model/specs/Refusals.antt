@@ -1,8 +1,9 @@
 -- Document 01, "Refusal numbers".
-use mathlib.Core.Bool.{Bool, cond}
+use mathlib.Core.{Bool.{Bool, cond}, List.{List, [], _∷_}}
 use Prim.Native.Nat.{ℕ}
 use lib.Dec.{eqb}
-use Rattle.model.specs.declared.answers.{Fault.{Fault}, Refusal.{Refusal}}
+use Rattle.model.specs.declared.answers.{Fault.{Fault}, NumberRead.{NumberRead}, Refusal.{Refusal}}
+use Rattle.model.specs.declared.answers.NumberRead.the-variants.{Value, Refused}
 use Rattle.model.specs.declared.answers.Refusal.the-variants.{Nothing, BadForm, NoChannel, TooManyFlows, BadPeriod, BadDeadline, BadTries, BadRoute, NodeTwice, TooMuchWork, NoRoom, AtLastSlot, BadState, NoSuchFlow}
 
 -- the number of each case; 0 where nothing is refused
@@ -21,6 +22,11 @@ refusalNumber NoRoom = 10
 refusalNumber AtLastSlot = 11
 refusalNumber BadState = 12
 refusalNumber NoSuchFlow = 13
+
+-- the number and the values of each case of a number's reading: the value and the place after it, or refusal 1 and none
+abbrev pub numberSays : NumberRead → ℕ × List ℕ
+numberSays (Value v next) = (refusalNumber Nothing, v ∷ next ∷ [])
+numberSays Refused = (refusalNumber BadForm, [])
 
 -- nothing is refused
 abbrev pub good : Refusal → Bool

@@ -53,6 +53,12 @@ impl Refusal {
     }
 }
 
+// A number's reading ends either in its value, with the place after it, or in a refusal.
+pub enum NumberRead {
+    Value(u16, usize),
+    Refused,
+}
+
 // A refusal with the line it names, 0 where it names none.
 pub struct Fault {
     pub refusal: Refusal,

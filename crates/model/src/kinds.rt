@@ -16,7 +16,7 @@ pub struct Slot(pub u32);
 pub struct Span(pub u16);
 
 impl Slot {
-    // The slot so many slots later; the last number there is where that would be beyond it.
+    // The slot that comes this count of slots later; the last number there is where that would be beyond it.
     pub fn after(self, count: Span) -> Slot
         ensures { λ r. ⌜ r .0 ≡ min (self .0 + count .0) 4294967295 ⌝ }
     {
@@ -29,7 +29,7 @@ impl Slot {
         }
     }
 
-    // The slot so many slots back; the first one, 0, where there is none.
+    // The slot that comes this count of slots earlier; the first one, 0, where there is none.
     pub fn back(self, count: Span) -> Slot
         ensures { λ r. ⌜ r .0 ≡ self .0 - count .0 ⌝ }
     {

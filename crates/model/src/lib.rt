@@ -7,6 +7,7 @@ pub use answers::Bounds;
 pub use answers::BoundsAnswer;
 pub use answers::Delivery;
 pub use answers::Fault;
+pub use answers::NumberRead;
 pub use answers::Ran;
 pub use answers::Reading;
 pub use answers::Refusal;

@@ -12,8 +12,7 @@ use lib.Seq.{drop-cons, drop-drop, getD-drop}
 use borrow.Author.Tests.{eqb-true, ltb-true, ltb-false, eqb-false, leb-true, leb-false, lt-ltb, le-ltb, le-leb, lt-leb, ne-eqb}
 use Rattle.document.specs.Text.{fields, isDigit, allDigits, plain, valueFrom, valueOf, isNumber}
 use Rattle.text.specs.Places.{first, lookByte, lookAt}
-use Rattle.text.specs.NumberAnswers.{numberIn, numberOf}
-use Rattle.text.specs.declared.line.NumberRead.the-variants.{Value, Refused}
+use Rattle.text.specs.NumberAnswers.{valueRead, noValue, numberIn, numberOf}
 use Rattle.text.specs.Fields.{Sep, is-tab, is-lf, within, sep, first-within}
 
 -- what the byte at a place is to a number
@@ -161,7 +160,7 @@ plain-none [] h = refl
 plain-none (b ∷ f) h = absurd (omega arith)
 
 -- the answer to what is no number
-pub number-refused : (from : ℕ) (f : List ℕ) → isNumber f ≡ false → numberIn from f ≡ Refused
+pub number-refused : (from : ℕ) (f : List ℕ) → isNumber f ≡ false → numberIn from f ≡ noValue
 unfolding numberIn
 number-refused from f h = rw h
 
@@ -171,20 +170,20 @@ pub digits-number : (from : ℕ) (t : List ℕ) (i v : ℕ) → allDigits (first
 unfolding numberIn
 digits-number from t i v d e h k = go (leb i from) (eqb (i - from) 1) (eqb (getD t 0 0) 48) refl refl refl
   where
-    value : isNumber (first t) ≡ true → Value v i ≡ numberIn from (first t)
+    value : isNumber (first t) ≡ true → valueRead v i ≡ numberIn from (first t)
     value n = rw (n, e, k)
 
-    good : plain (first t) ≡ true → Value v i ≡ numberIn from (first t)
+    good : plain (first t) ≡ true → valueRead v i ≡ numberIn from (first t)
     good p = value (good-number (first t) p d (omega (arith, e)))
 
-    bad : plain (first t) ≡ false → Refused ≡ numberIn from (first t)
+    bad : plain (first t) ≡ false → noValue ≡ numberIn from (first t)
     bad p = sym (number-refused from (first t) (bad-plain (first t) p))
 
     lead : 1 < length (first t) → plain (first t) ≡ not (eqb (getD t 0 0) 48)
     lead l = plain-lead (first t) l ∙ ap (λ (n : ℕ). not (eqb n 48)) (first-byte t (omega arith))
 
     go : (x y z : Bool) → leb i from ≡ x → eqb (i - from) 1 ≡ y → eqb (getD t 0 0) 48 ≡ z
-        → cond x Refused (cond y (Value v i) (cond z Refused (Value v i))) ≡ numberIn from (first t)
+        → cond x noValue (cond y (valueRead v i) (cond z noValue (valueRead v i))) ≡ numberIn from (first t)
     go true y z p q r = bad (plain-none (first t) (omega (arith, leb-true)))
     go false true z p q r = good (plain-one (first t) (omega (arith, leb-false, eqb-true)))
     go false false true p q r =
@@ -225,12 +224,12 @@ module _ (s : List ℕ) (from i v d : ℕ) (inv : DigitsSoFar s from i v d) wher
         known = l;
       }
 
-  pub digits-large : d < 10 → 65535 < v * 10 + d → numberIn from (first (drop from s)) ≡ Refused
+  pub digits-large : d < 10 → 65535 < v * 10 + d → numberIn from (first (drop from s)) ≡ noValue
   digits-large h k =
       number-refused from (first (drop from s))
       (bad-value (first (drop from s)) (omega (arith, step h, value-grows (first (drop (i + 1) s)) (v * 10 + d))))
 
-  pub digits-other : d ≡ 11 → numberIn from (first (drop from s)) ≡ Refused
+  pub digits-other : d ≡ 11 → numberIn from (first (drop from s)) ≡ noValue
   digits-other h =
       number-refused from (first (drop from s))
       (bad-digit (first (drop from s)) (inv .all ∙ look-other (drop i s) (sym (inv .sees) ∙ h)))

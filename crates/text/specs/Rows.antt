@@ -14,9 +14,8 @@ use borrow.Author.Tests.{ne-eqb}
 use Rattle.laws.specs.SumLaws.{and-l, and-r}
 use Rattle.document.specs.Reader.{pad}
 use Rattle.document.specs.Text.{same, ended, fields, valueOf, isNumber, allNumbers, valuesOf, wellFormed, numbersOf}
-use Rattle.text.specs.declared.line.NumberRead.the-variants.{Value, Refused}
 use Rattle.text.specs.Places.{first, more, line}
-use Rattle.text.specs.NumberAnswers.{numberIf, numberIn}
+use Rattle.text.specs.NumberAnswers.{valueRead, noValue, numberIf, numberIn}
 use Rattle.text.specs.Row.{mostNumbers, noRow, rowIf, rowIn}
 use Rattle.text.specs.Fields.{Sep, is-tab, is-lf, within, sep, fields-parts, more-within, line-within, Past, past-first}
 
@@ -56,20 +55,23 @@ pub record NumberReads (f : List ℕ) (from v next : ℕ) : Type 0 where
   pub value : v ≡ valueOf f
   pub place : next ≡ from + length f
 
-pub number-value : (from : ℕ) (f : List ℕ) (v next : ℕ) → numberIn from f ≡ Value v next → NumberReads f from v next
+pub number-value : (from : ℕ) (f : List ℕ) (v next : ℕ) → numberIn from f ≡ valueRead v next → NumberReads f from v next
 unfolding numberIn
 number-value from f v next h = go (isNumber f) refl h
   where
-    go : (b : Bool) → isNumber f ≡ b → numberIf b from f ≡ Value v next → NumberReads f from v next
-    go true e h = record { good = e; value = cc; place = cc }
-    go false e h = let z : _≡_ {A = ℕ} 0 1 = cc in absurd (omega arith)
+    at : ℕ → ℕ × List ℕ → ℕ
+    at i x = getD (x .1) i 0
 
-pub number-bad : (from : ℕ) (f : List ℕ) → numberIn from f ≡ Refused → isNumber f ≡ false
+    go : (b : Bool) → isNumber f ≡ b → numberIf b from f ≡ valueRead v next → NumberReads f from v next
+    go true e h = record { good = e; value = sym (ap (at 0) h); place = sym (ap (at 1) h) }
+    go false e h = absurd (omega (arith, ap (λ (x : ℕ × List ℕ). x .0) h))
+
+pub number-bad : (from : ℕ) (f : List ℕ) → numberIn from f ≡ noValue → isNumber f ≡ false
 unfolding numberIn
 number-bad from f h = go (isNumber f) refl h
   where
-    go : (b : Bool) → isNumber f ≡ b → numberIf b from f ≡ Refused → b ≡ false
-    go true e h = let z : _≡_ {A = ℕ} 0 1 = cc in absurd (omega arith)
+    go : (b : Bool) → isNumber f ≡ b → numberIf b from f ≡ noValue → b ≡ false
+    go true e h = absurd (omega (arith, ap (λ (x : ℕ × List ℕ). x .0) h))
     go false e h = refl
 
 -- the rest of a line that begins with a tab
@@ -127,12 +129,12 @@ module _ (s : List ℕ) (from i k : ℕ) (ns : List ℕ) (inv : NumbersSoFar s f
   tabbed-here : getD s i 0 ≡ 9 → drop i s ≡ 9 ∷ drop (i + 1) s
   tabbed-here e = drop-byte s i 9 e (omega arith) .1
 
-  pub numbers-refused : getD s i 0 ≡ 9 → numberIn (i + 1) (first (drop (i + 1) s)) ≡ Refused → noRow ≡ rowIn [] from (drop from s)
+  pub numbers-refused : getD s i 0 ≡ 9 → numberIn (i + 1) (first (drop (i + 1) s)) ≡ noValue → noRow ≡ rowIn [] from (drop from s)
   numbers-refused e h =
       row-refused [] from (drop from s)
       (inv .form ∙ ap (wellFormed []) (tabbed-here e) ∙ formed-tab (drop (i + 1) s) ∙ rw (number-bad (i + 1) (first (drop (i + 1) s)) h))
 
-  pub numbers-more : (v next : ℕ) → getD s i 0 ≡ 9 → numberIn (i + 1) (first (drop (i + 1) s)) ≡ Value v next
+  pub numbers-more : (v next : ℕ) → getD s i 0 ≡ 9 → numberIn (i + 1) (first (drop (i + 1) s)) ≡ valueRead v next
       → NumbersSoFar s from next (k + 1) (set ns k v)
   unfolding line
   numbers-more v next e h = go (number-value (i + 1) (first t) v next h) (past-first t)
@@ -166,7 +168,7 @@ module _ (s : List ℕ) (from i k : ℕ) (ns : List ℕ) (inv : NumbersSoFar s f
   pub numbers-full : (v : ℕ) (out : List ℕ) → mostNumbers ≤ k → out ≡ ns → set ns k v ≡ out
   numbers-full v out h e = set-out ns k v (omega (arith, inv .long)) ∙ sym e
 
-  pub numbers-next : (v next : ℕ) (out : List ℕ) → set ns k v ≡ out → getD s i 0 ≡ 9 → numberIn (i + 1) (first (drop (i + 1) s)) ≡ Value v next
+  pub numbers-next : (v next : ℕ) (out : List ℕ) → set ns k v ≡ out → getD s i 0 ≡ 9 → numberIn (i + 1) (first (drop (i + 1) s)) ≡ valueRead v next
       → NumbersSoFar s from next (k + 1) out
   numbers-next v next out q e h = subst (λ (l : List ℕ). NumbersSoFar s from next (k + 1) l) q (numbers-more v next e h)
 
@@ -175,7 +177,7 @@ module _ (s : List ℕ) (from i k : ℕ) (ns : List ℕ) (inv : NumbersSoFar s f
   numbers-inside b e h = drop-byte s i b e h .0
 
   -- the place after it is further on
-  pub numbers-on : (v next : ℕ) → numberIn (i + 1) (first (drop (i + 1) s)) ≡ Value v next → i < next
+  pub numbers-on : (v next : ℕ) → numberIn (i + 1) (first (drop (i + 1) s)) ≡ valueRead v next → i < next
   numbers-on v next h = omega (arith, number-value (i + 1) (first (drop (i + 1) s)) v next h .place)
 
   -- an LF, and any other byte

@@ -3,18 +3,14 @@
 ghost use mathlib.Core.Path.{_≡_};
 ghost use Prim.Native.Nat.{_≤_};
 ghost use Rattle.text.specs.Places.{first, lookAt, lookByte};
+ghost use Rattle.model.specs.Refusals.{numberSays};
 ghost use Rattle.text.specs.NumberAnswers.{numberIn, numberOf};
 ghost use lib.ListN.{drop, getD};
 ghost use Rattle.text.specs.Row.{noRow, rowIn};
 ghost use mathlib.Core.List.{[]};
 ghost use Rattle.text.specs.Rows.{begins, isByte};
 use model::Flow;
-
-// A number's answer: its value and the place after it, or a refusal.
-pub enum NumberRead {
-    Value(u16, usize),
-    Refused,
-}
+use model::NumberRead;
 
 // A digit by its value, a tab or an LF by 10, any other byte by 11.
 fn look_byte(b: u8) -> u32
@@ -37,7 +33,7 @@ fn look_byte(b: u8) -> u32
 
 // The answer to digits from one place to another that have this value: none is no number, and a leading zero stands alone.
 fn number_of(lead: u8, from: usize, end: usize, v: u16) -> NumberRead
-    ensures { λ r. ⌜ r ≡ numberOf lead from end v ⌝ }
+    ensures { λ r. ⌜ numberSays r ≡ numberOf lead from end v ⌝ }
 {
     if end <= from {
         return NumberRead::Refused;
@@ -67,7 +63,7 @@ fn look_at(s: &[u8], at: usize) -> u32
 
 // The number at a place: decimal, without sign or leading zero, at most 65,535, ended by a tab, an LF or the text's end.
 fn number_at(s: &[u8], from: usize) -> NumberRead
-    ensures { λ r. ⌜ r ≡ numberIn from (first (drop from (now (s .entry)))) ⌝ }
+    ensures { λ r. ⌜ numberSays r ≡ numberIn from (first (drop from (now (s .entry)))) ⌝ }
 {
     let mut i = from;
     let mut v: u32 = 0;

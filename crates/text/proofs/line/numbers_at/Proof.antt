@@ -1,10 +1,11 @@
 -- `numbers_at` goes over the numbers of the rest of the line; what is left of it says the rest (`Numbers`).
 -- The measure is what is left of the text. Assumes nothing.
-use mathlib.Core.Path.{sym, _∙_}
+use mathlib.Core.Path.{sym, ap, _∙_}
 use mathlib.Core.Logic.{⊎-elim}
 use Prim.Native.Nat.{_-_}
 use native.Mathlib.Omega.{arith}
 use lib.ListN.{length}
+use Rattle.model.specs.Refusals.{numberSays}
 use Rattle.text.specs.Rows.{NumbersSoFar, numbers-start, numbers-refused, numbers-inside, numbers-next, numbers-kept, numbers-full, numbers-on, numbers-ended, numbers-other}
 use borrow.Author.Needs.{needs}
 use Rattle.text.proofs.line.numbers_at.Statement.{statement}
@@ -28,7 +29,7 @@ enum-told c = search needs
 returns : tie.Need-returns Inv-loop μ-loop
 returns c =
     c .none .ensures
-    ∙ numbers-refused _ _ _ _ _ (c .before .before .before .before .before .before .loop .inv) (sym (c .before .before .before .before .before .byte-at .ensures) ∙ c .before .before .before .before .if1 .taken) (sym (c .before .before .before .number-at .ensures) ∙ c .before .enum-told .given .1)
+    ∙ numbers-refused _ _ _ _ _ (c .before .before .before .before .before .before .loop .inv) (sym (c .before .before .before .before .before .byte-at .ensures) ∙ c .before .before .before .before .if1 .taken) (sym (c .before .before .before .number-at .ensures) ∙ ap numberSays (c .before .enum-told .given .1))
 
 add-k : tie.Need-add-k Inv-loop μ-loop
 add-k c = omega (arith, numbers-inside _ _ _ _ _ (c .before .before .before .before .before .before .before .loop .inv) 9 (sym (c .before .before .before .before .before .before .byte-at .ensures) ∙ c .before .before .before .before .before .if1 .taken) (omega arith))
@@ -38,7 +39,7 @@ loop-less c =
     omega (
       arith,
       numbers-inside _ _ _ _ _ (c .before .before .before .before .before .before .before .loop .inv) 9 (sym (c .before .before .before .before .before .before .byte-at .ensures) ∙ c .before .before .before .before .before .if1 .taken) (omega arith),
-      numbers-on _ _ _ _ _ (c .before .before .before .before .before .before .before .loop .inv) _ _ (sym (c .before .before .before .before .number-at .ensures) ∙ c .before .before .v .given .1),
+      numbers-on _ _ _ _ _ (c .before .before .before .before .before .before .before .loop .inv) _ _ (sym (c .before .before .before .before .number-at .ensures) ∙ ap numberSays (c .before .before .v .given .1)),
     )
 
 loop-again : tie.Need-loop-again Inv-loop μ-loop
@@ -48,7 +49,7 @@ loop-again c =
     (λ w. numbers-kept _ _ _ _ _ (c .before .before .before .before .before .before .before .loop .inv) _ _ (w .0 .taken) (w .1))
     (λ w. numbers-full _ _ _ _ _ (c .before .before .before .before .before .before .before .loop .inv) _ _ (w .0 .left) (w .1))
     (c .if2 .came))
-    (sym (c .before .before .before .before .before .before .byte-at .ensures) ∙ c .before .before .before .before .before .if1 .taken) (sym (c .before .before .before .before .number-at .ensures) ∙ c .before .before .v .given .1)
+    (sym (c .before .before .before .before .before .before .byte-at .ensures) ∙ c .before .before .before .before .before .if1 .taken) (sym (c .before .before .before .before .number-at .ensures) ∙ ap numberSays (c .before .before .v .given .1))
 
 add-t18 : tie.Need-add-t18 Inv-loop μ-loop
 add-t18 c = omega (arith, numbers-inside _ _ _ _ _ (c .before .before .before .before .loop .inv) 10 (sym (c .before .byte-at2 .ensures) ∙ c .if3 .taken) (omega arith))
