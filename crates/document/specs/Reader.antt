@@ -1,11 +1,11 @@
 -- Document 01, "Refusal numbers" 1 to 9, the reader, the record check and the writer.
-use mathlib.Core.{Bool.{Bool, true, false, not, _&&_, _||_, cond}, List.{List, [], _∷_, _++_}}
-use Prim.Native.Nat.{ℕ, zero, suc, _+_, _-_, _*_}
+use mathlib.Core.{Path.{_≡_}, Bool.{Bool, true, false, not, _&&_, _||_, cond}, List.{List, [], _∷_, _++_}}
+use Prim.Native.Nat.{ℕ, zero, suc, _+_, _-_, _*_, _≤_, _<_}
 use lib.{Dec.{leb, ltb, eqb}, ListN.{length, getD, take, drop, set, replicate}}
 use Rattle.model.specs.declared.kinds.{Flow.{Flow}, FlowSet.{FlowSet}}
 use Rattle.model.specs.declared.answers.{Fault.{Fault}, Reading.{Reading}, Written.{Written}, Refusal.{Refusal}}
 use Rattle.model.specs.declared.answers.Refusal.the-variants.{Nothing, BadForm, NoChannel, TooManyFlows, BadPeriod, BadDeadline, BadTries, BadRoute, NodeTwice, TooMuchWork, NoRoom}
-use Rattle.model.specs.{Limits.{mostFlows, mostNodes}, Refusals.{good, faultAt, noFault, orElse}, Sets.{flowAt, blankSet, memb}}
+use Rattle.model.specs.{Limits.{mostFlows, mostNodes}, Refusals.{good, faultAt, noFault, orElse}, Sets.{flowAt, blankFlow, blankSet, memb, used, SameSet}}
 use Rattle.document.specs.Text.{setWord, flowWord, lines, wellFormed, numbersOf, lineOf}
 
 -- rule 2
@@ -116,7 +116,7 @@ flowLines (f ∷ fs) = lineOf flowWord (flowNumbers f) ++ flowLines fs
 unfoldable pub textOf : FlowSet → List ℕ
 textOf s = lineOf setWord (s .map .0 ∷ []) ++ flowLines (s .flows)
 
--- so many bytes stand in a lent buffer; a refusal writes none
+-- n bytes stand in a lent buffer; a refusal writes none
 abbrev pub wrote : ℕ → Written
 wrote n = record { fault = noFault; length = n }
 
@@ -133,3 +133,15 @@ writeAnswer s room = record { fault = writeFault s room; length = cond (good (wr
 
 unfoldable pub writeInto : FlowSet → List ℕ → List ℕ
 writeInto s buffer = cond (good (writeFault s (length buffer) .refusal)) (textOf s ++ drop (length (textOf s)) buffer) buffer
+
+-- all entries beyond the last flow and beyond a route's end are 0
+pub record Zeroed (t : FlowSet) : Type 0 where
+  pub long : length (t .flows) ≡ mostFlows
+  pub beyond : (k : ℕ) → t .count ≤ k → k < mostFlows → flowAt t k ≡ blankFlow
+  pub routes : (k j : ℕ) → k < t .count → flowAt t k .nodes ≤ j → getD (flowAt t k .route) j 0 ≡ 0
+
+-- a set's text is read, without a fault, as the same set, and the entries that don't count are 0
+pub record ReadAgain (s : FlowSet) : Type 0 where
+  pub no-fault : good (readText (textOf (used s)) .fault .refusal) ≡ true
+  pub same-set : SameSet (readText (textOf (used s)) .set) s
+  pub others-zero : Zeroed (readText (textOf (used s)) .set)

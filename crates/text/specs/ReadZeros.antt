@@ -13,18 +13,12 @@ use Rattle.model.specs.declared.answers.Reading.{Reading}
 use Rattle.model.specs.Limits.{mostFlows, mostNodes}
 use Rattle.model.specs.Refusals.{good}
 use Rattle.model.specs.Sets.{noFlow, blankFlow, blankSet, flowAt}
-use Rattle.document.specs.Reader.{pad, flowOf, withFlow, firstLineFault, flowLineFault, readFlows, setOf, readLines, readText}
+use Rattle.document.specs.Reader.{Zeroed, pad, flowOf, withFlow, firstLineFault, flowLineFault, readFlows, setOf, readLines, readText}
 use Rattle.document.specs.Text.{lines, numbersOf}
 use Rattle.text.specs.PaddedEntries.{pad-at}
 use Rattle.text.specs.FlowRows.{read-good, read-bad, good-line}
 use Rattle.text.specs.FirstRow.{first-good, first-bad}
 use Rattle.laws.specs.Padded.{pad-length}
-
--- all entries that don't count are 0
-pub record Zeroed (t : FlowSet) : Type 0 where
-  pub long : length (t .flows) ≡ mostFlows
-  pub beyond : (k : ℕ) → t .count ≤ k → k < mostFlows → flowAt t k ≡ blankFlow
-  pub routes : (k j : ℕ) → k < t .count → flowAt t k .nodes ≤ j → getD (flowAt t k .route) j 0 ≡ 0
 
 zeroed-none : (t : FlowSet) → t .count ≡ 0 → t .flows ≡ blankSet .flows → Zeroed t
 zeroed-none t c f =

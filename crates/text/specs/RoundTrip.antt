@@ -11,20 +11,15 @@ use Rattle.model.specs.declared.kinds.FlowSet.{FlowSet}
 use Rattle.model.specs.Limits.{mostFlows, mostNodes}
 use Rattle.model.specs.Refusals.{good}
 use Rattle.model.specs.Sets.{noFlow, used, anyOf, SameSet}
-use Rattle.document.specs.Reader.{twice, flowFault, flowsFault, recordFault, flowLines, readText, textOf}
+use Rattle.document.specs.Reader.{ReadAgain, twice, flowFault, flowsFault, recordFault, flowLines, readText, textOf}
 use Rattle.document.specs.Text.{decimalIn, decimal, tabbed, decimals, lineOf}
 use Rattle.text.specs.ReadThenWritten.{longestText, read-written, read-length}
 use Rattle.text.specs.WrittenLines.{small}
 use Rattle.text.specs.HeldByCode.{HeldRecord}
 use Rattle.text.specs.WrittenThenRead.{written-read}
-use Rattle.text.specs.ReadZeros.{Zeroed, read-zeroed}
+use Rattle.text.specs.ReadZeros.{read-zeroed}
 
 -- (i) what is written of a set that passes the record check is read, without a fault, as the same set, and all other entries are 0
-pub record ReadAgain (s : FlowSet) : Type 0 where
-  pub no-fault : good (readText (textOf (used s)) .fault .refusal) ≡ true
-  pub same-set : SameSet (readText (textOf (used s)) .set) s
-  pub others-zero : Zeroed (readText (textOf (used s)) .set)
-
 pub read-again : (s : FlowSet) → HeldRecord s → good (recordFault (used s) .refusal) ≡ true → ReadAgain s
 read-again s st h =
     let w = written-read s st h in

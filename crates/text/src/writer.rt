@@ -3,9 +3,8 @@
 ghost use mathlib.Core.Path.{_≡_};
 ghost use Prim.Native.Nat.{_+_, _-_, _≤_, min};
 ghost use mathlib.Core.Bool.{true};
-ghost use Rattle.document.specs.Reader.{flowLines, flowNumbers, recordFault, textOf, writeAnswer, writeInto};
+ghost use Rattle.document.specs.Reader.{ReadAgain, flowLines, flowNumbers, recordFault, textOf, writeAnswer, writeInto};
 ghost use Rattle.model.specs.Refusals.{good};
-ghost use Rattle.text.specs.RoundTrip.{ReadAgain};
 ghost use Rattle.model.specs.Limits.{mostFlows, mostNodes};
 ghost use Rattle.model.specs.Sets.{exact, used};
 ghost use Rattle.document.specs.Text.{flowWord, lineOf};
