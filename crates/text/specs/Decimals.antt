@@ -44,6 +44,18 @@ decimal-room (suc k) n h = go (decimal-room k (n / 10) (omega arith)) (ltb n 10)
         let l = ltb-false n 10 e in
         more-digits (suc (suc k)) n l ∙ ap (λ (d : List ℕ). d ++ ((48 + n % 10) ∷ [])) ih ∙ sym (more-digits (suc k) n l)
 
+-- and neither does any more
+top-more : (j k m n : ℕ) → m ≡ j + k → n < top k → n < top m
+unfolding top
+top-more zero k m n e h = let z : m ≡ k = omega arith in rw z h
+top-more (suc j) k m n e h = let z : m ≡ suc (j + k) = omega arith in rw z (omega (arith, top-more j k (j + k) n refl h))
+
+pub room-more : (j k m n : ℕ) → m ≡ j + k → n < top k → decimalIn (suc m) n ≡ decimalIn (suc k) n
+room-more zero k m n e h = let z : m ≡ k = omega arith in ap (λ (i : ℕ). decimalIn (suc i) n) z
+room-more (suc j) k m n e h =
+    let z : m ≡ suc (j + k) = omega arith in
+    ap (λ (i : ℕ). decimalIn (suc i) n) z ∙ decimal-room (j + k) n (top-more j k (j + k) n refl h) ∙ room-more j k (j + k) n refl h
+
 pub decimal-one : (n : ℕ) → n < 10 → decimal n ≡ (48 + n) ∷ []
 unfolding decimal
 decimal-one n h = one-digit 9 n h

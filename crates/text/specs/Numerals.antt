@@ -8,10 +8,10 @@ use native.Mathlib.Omega.{arith}
 use lib.Dec.{leb, ltb, eqb}
 use lib.ListN.{length}
 use borrow.Author.Tests.{ne-eqb, le-leb, lt-ltb, leb-true, ltb-true, eqb-false, not-true}
-use Rattle.document.specs.Text.{isDigit, allDigits, plain, valueFrom, valueOf, isNumber, decimal}
+use Rattle.document.specs.Text.{isDigit, allDigits, plain, valueFrom, valueOf, isNumber, decimalIn, decimal}
 use Rattle.laws.specs.SumLaws.{and-l, and-r}
 use Rattle.text.specs.DigitsRead.{value-grows, good-number}
-use Rattle.text.specs.Decimals.{tenDigits, top, decimal-one, decimal-more, decimal-size}
+use Rattle.text.specs.Decimals.{tenDigits, top, room-more, decimal-one, decimal-more, decimal-size}
 
 -- one digit more at the end
 value-next : (f : List ℕ) (v b : ℕ) → valueFrom v (f ++ (b ∷ [])) ≡ valueFrom v f * 10 + (b - 48)
@@ -70,16 +70,34 @@ pub numeral : (n : ℕ) → n < tenDigits → Numeral n (decimal n)
 unfolding top
 numeral n h = numeral-in 9 n h h
 
-pub decimal-number : (n : ℕ) → n ≤ 65535 → isNumber (decimal n) ≡ true
-decimal-number n h = good-number (decimal n) (front n h) (m .all) (omega (arith, m .value))
-  where
-    m : Numeral n (decimal n)
-    m = numeral n (omega arith)
+decimal-plain : (n : ℕ) → n < tenDigits → plain (decimal n) ≡ true
+decimal-plain zero h = ap plain (decimal-one 0 (omega arith))
+decimal-plain (suc n) h =
+    let w = numeral (suc n) h .lead (omega arith) in ap plain (w .2) ∙ plain-of (w .0) (w .1) (w .3)
 
-    front : (n : ℕ) → n ≤ 65535 → plain (decimal n) ≡ true
-    front zero h = ap plain (decimal-one 0 (omega arith))
-    front (suc n) h =
-        let w = numeral (suc n) (omega arith) .lead (omega arith) in ap plain (w .2) ∙ plain-of (w .0) (w .1) (w .3)
+-- ten digits are enough for every number that is written, which has at most 32 bits: its digits have its value, without leading zero, and
+-- room for more digits changes nothing
+pub record WrittenInFull (n : ℕ) : Type 0 where
+  pub value : valueOf (decimal n) ≡ n
+  pub digits : allDigits (decimal n) ≡ true
+  pub no-zero : plain (decimal n) ≡ true
+  pub no-more : (k : ℕ) → decimalIn (10 + k) n ≡ decimal n
+
+pub ten-digits-are-enough : (n : ℕ) → n ≤ 4294967295 → WrittenInFull n
+unfolding decimal top
+ten-digits-are-enough n h =
+    let m = numeral n (omega arith) in
+    record {
+      value = m .value;
+      digits = m .all;
+      no-zero = decimal-plain n (omega arith);
+      no-more = λ k. let z : 10 + k ≡ suc (k + 9) = omega arith in rw z (room-more k 9 (k + 9) n refl (omega arith));
+    }
+
+pub decimal-number : (n : ℕ) → n ≤ 65535 → isNumber (decimal n) ≡ true
+decimal-number n h =
+    let m = numeral n (omega arith) in
+    good-number (decimal n) (decimal-plain n (omega arith)) (m .all) (omega (arith, m .value))
 
 pub value-decimal : (n : ℕ) → n ≤ 65535 → valueOf (decimal n) ≡ n
 value-decimal n h = numeral n (omega arith) .value
