@@ -200,7 +200,7 @@ stepIfWith first s st false = stepped (stepFault s st) st [] [] []
 unfoldable pub stepWith : Priority → FlowSet → State → Stepped
 stepWith first s st = stepIfWith first s st (good (stepFault s st .refusal))
 
--- a run is so many steps from the fresh state, as far as the last slot, where a step changes nothing
+-- a run of n steps from the fresh state, as far as the last slot, where a step changes nothing
 abbrev pub runMore : Ran → Stepped → Ran
 runMore r a =
     record { fault = r .fault; last = a .next; delivered = r .delivered + a .deliveries; dropped = r .dropped + a .drops }

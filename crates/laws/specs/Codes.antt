@@ -1,4 +1,4 @@
--- Whether something is refused, told by a refusal's code, which is 0 where nothing is, or by the answer of `refuses`.
+-- Whether something is refused: a refusal's code, which is 0 where nothing is, and the answer of `refuses` decide it alike.
 use mathlib.Core.Path.{_≡_, refl, sym, _∙_}
 use mathlib.Core.Bool.{Bool, true, false, not, cond, false≢true}
 use Prim.Native.Nat.{ℕ}

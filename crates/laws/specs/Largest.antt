@@ -1,6 +1,6 @@
 -- What the rounds reach is the greatest list, whatever the order of the flows. A list whose every entry is the smaller of deadline and
 -- value stays below each list of the rounds, since the value grows with the list; and when no flow's replacement changes the list, it is
--- such a list itself.
+-- one of these lists itself.
 use mathlib.Core.Path.{_≡_, refl, sym, ap, _∙_}
 use mathlib.Core.Bool.{Bool, true, false, cond}
 use mathlib.Core.List.{List, [], _∷_}

@@ -1,16 +1,13 @@
 -- The `send` lines of a list of sends, one line more at a time.
 use mathlib.Core.Path.{_≡_, refl, sym, ap, _∙_}
 use mathlib.Core.List.{List, [], _∷_, _++_, append-assoc, append-nil}
-use Prim.Native.Nat.{ℕ, _+_, _<_, min}
-use native.Mathlib.Decide.{decLe}
-use native.Mathlib.Omega.{arith}
+use Prim.Native.Nat.{ℕ, _+_, _<_}
 use native.Mathlib.Numerals.{add-one}
 use lib.ListN.{length, take, getD}
-use lib.Seq.{take-suc, take-all}
+use lib.Seq.{take-suc}
 use Rattle.model.specs.declared.answers.Send.{Send}
 use Rattle.document.specs.Text.{lineOf}
 use Rattle.document.specs.Program.{sendLines, sendNumbers, sendWord}
-use Rattle.model.specs.Limits.{mostChannels}
 
 send-append : (xs ys : List Send) → sendLines (xs ++ ys) ≡ sendLines xs ++ sendLines ys
 unfolding sendLines
@@ -30,11 +27,3 @@ send-more xs i d h =
     ap (λ (l : List ℕ). sendLines (take i xs) ++ l) (sym (send-one (getD xs i d)))
     ∙ sym (send-append (take i xs) (getD xs i d ∷ []))
     ∙ ap sendLines (sym (take-suc xs i d h) ∙ ap (λ (n : ℕ). take n xs) (sym (add-one i)))
-
--- none beyond the array
-pub take-min : (xs : List Send) (n m : ℕ) → length xs ≡ mostChannels → m ≡ min n mostChannels → take m xs ≡ take n xs
-take-min xs n m h e =
-    elim (decLe n mostChannels) [
-      | yes d ↦ let z : m ≡ n = omega arith in ap (λ (k : ℕ). take k xs) z
-      | no d ↦ take-all m xs (omega arith) ∙ sym (take-all n xs (omega arith))
-    ]

@@ -2,7 +2,6 @@
 use mathlib.Core.Path.{_≡_, refl, sym, ap, _∙_}
 use mathlib.Core.List.{List, [], _∷_, _++_, append-nil, append-assoc}
 use Prim.Native.Nat.{ℕ, suc, _+_, _<_, min}
-use native.Mathlib.Decide.{decLe}
 use native.Mathlib.Numerals.{add-one}
 use native.Mathlib.Omega.{arith}
 use lib.ListN.{length, take, length-take, length-map}
@@ -13,20 +12,16 @@ use Rattle.model.specs.Limits.{mostFlows, mostNodes}
 use Rattle.model.specs.Sets.{noFlow, flowAt, exact, used}
 use Rattle.document.specs.Reader.{flowNumbers, flowLines, textOf}
 use Rattle.document.specs.Text.{setWord, flowWord, lineOf}
+use Rattle.laws.specs.Taken.{take-min}
 use Rattle.laws.specs.Used.{used-flow}
 
 -- the numbers of a flow's line are those of its route's used nodes
-pub line-numbers : (f : Flow) (n : ℕ) → length (f .route) ≡ mostNodes → n ≡ 4 + min (f .nodes) mostNodes → take n (flowNumbers f) ≡ flowNumbers (exact f)
+pub line-numbers : (f : Flow) (n : ℕ) → length (f .route) ≡ mostNodes → n ≡ 4 + min (f .nodes) mostNodes
+    → take n (flowNumbers f) ≡ flowNumbers (exact f)
 line-numbers f n h e =
     let z : n ≡ suc (suc (suc (suc (min (f .nodes) mostNodes)))) = omega arith in
-    rw z (ap (λ (r : List ℕ). f .period .0 ∷ f .deadline .0 ∷ f .start ∷ f .tries ∷ r) (nodes (f .nodes) (f .route) h))
-  where
-    nodes : (n : ℕ) (r : List ℕ) → length r ≡ mostNodes → take (min n mostNodes) r ≡ take n r
-    nodes n r l =
-        elim (decLe n mostNodes) [
-          | yes k ↦ let z : min n mostNodes ≡ n = omega arith in rw z
-          | no k ↦ take-all (min n mostNodes) r (omega arith) ∙ sym (take-all n r (omega arith))
-        ]
+    rw z
+    (ap (λ (r : List ℕ). f .period .0 ∷ f .deadline .0 ∷ f .start ∷ f .tries ∷ r) (take-min (f .route) mostNodes (f .nodes) _ h refl))
 
 -- the lines of the flows, one more
 lines-append : (a b : List Flow) → flowLines (a ++ b) ≡ flowLines a ++ flowLines b

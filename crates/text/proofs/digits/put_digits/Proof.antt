@@ -27,13 +27,17 @@ sub-i c = digits-left _ _ _ _ _ _ (c .before .loop .inv .2) (c .loop-test .taken
 
 loop-again : tie.Need-loop-again Inv-loop μ-loop
 loop-again c =
-    let w = c .before .before .before .before .before .before .loop .inv in
-    (w .0, w .1, digits-more _ _ _ _ _ _ (c .before .before .before .before .before .before .loop .inv .2) _ _ (c .before .before .before .before .before .loop-test .taken) (c .before .before .before .digit .ensures) (c .before .before .put-at .ensures))
+    let d = c .before .before .before in
+    let t = d .before .before in
+    let w = t .before .loop .inv in
+    (w .0, w .1, digits-more _ _ _ _ _ _ (w .2) _ _ (t .loop-test .taken) (d .digit .ensures) (c .before .before .put-at .ensures))
 
 returns-2 : tie.Need-returns-2 Inv-loop μ-loop
 returns-2 c =
-    let w = c .before .before .before .before .before .before .loop .inv in
-    (digits-done _ _ _ _ _ _ (c .before .before .before .before .before .before .loop .inv .2) _ _ (c .before .before .before .before .before .loop-test .left) (c .before .before .before .digit2 .ensures) (c .before .before .put-at2 .ensures), w .0, w .1)
+    let d = c .before .before .before in
+    let t = d .before .before in
+    let w = t .before .loop .inv in
+    (digits-done _ _ _ _ _ _ (w .2) _ _ (t .loop-test .left) (d .digit2 .ensures) (c .before .before .put-at2 .ensures), w .0, w .1)
 
 pub put-digits-spec : {M : Type 1} → statement M
 put-digits-spec =

@@ -22,10 +22,15 @@ add-at : tie.Need-add-at Inv-loop μ-loop
 add-at c = omega (arith, spelling-inside _ _ _ _ _ (c .before .before .before .before .loop .inv) (sym (c .before .begins .ensures) ∙ c .if1 .taken))
 
 loop-again : tie.Need-loop-again Inv-loop μ-loop
-loop-again c = spelling-more _ _ _ _ _ (c .before .before .before .before .loop .inv) (c .before .before .before .loop-test .taken) (sym (c .before .begins .ensures) ∙ c .if1 .taken)
+loop-again c =
+    let t = c .before .before .before in
+    spelling-more _ _ _ _ _ (t .before .loop .inv) (t .loop-test .taken) (sym (c .before .begins .ensures) ∙ c .if1 .taken)
 
 returns : tie.Need-returns Inv-loop μ-loop
-returns c = c .none .ensures ∙ spelling-refused _ _ _ _ _ (c .before .before .before .before .before .loop .inv) (c .before .before .before .before .loop-test .taken) (sym (c .before .before .begins .ensures) ∙ c .before .if1 .left)
+returns c =
+    let j = c .before in
+    let t = j .before .before .before in
+    c .none .ensures ∙ spelling-refused _ _ _ _ _ (t .before .loop .inv) (t .loop-test .taken) (sym (j .before .begins .ensures) ∙ j .if1 .left)
 
 returns-2 : tie.Need-returns-2 Inv-loop μ-loop
 returns-2 c = c .numbers-at .ensures ∙ spelling-row _ _ _ _ _ (c .before .before .loop .inv) (c .before .loop-test .left)

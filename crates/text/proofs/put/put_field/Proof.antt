@@ -6,7 +6,9 @@ use Rattle.text.proofs.put.put_field.Statement.{statement}
 use Rattle.text.proofs.put.put_field.Tie as tie
 
 returns : tie.Need-returns
-returns c = put-put _ _ _ _ _ _ _ _ (omega arith) (c .before .before .before .before .before .before .put-byte .ensures) (c .before .before .put-number .ensures)
+returns c =
+    let n = c .before .before in
+    put-put _ _ _ _ _ _ _ _ (omega arith) (n .before .before .before .before .put-byte .ensures) (n .put-number .ensures)
 
 pub put-field-spec : {M : Type 1} → statement M
 put-field-spec = tie.close (tie.spec (λ c κs. search needs) (λ c κs. search needs) (λ c. search needs) returns)

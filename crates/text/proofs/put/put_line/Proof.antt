@@ -7,9 +7,11 @@ use Rattle.text.proofs.put.put_line.Tie as tie
 
 returns : tie.Need-returns
 returns c =
+    let n = c .before .before .before .before .before .before in
+    let w = n .before .before .before .before in
     put-same _ _ _ _ _ _ (line-parts _ _)
     (put-put _ _ _ _ _ _ _ _ (omega arith)
-    (put-put _ _ _ _ _ _ _ _ (omega arith) (c .before .before .before .before .before .before .before .before .before .before .put-word .ensures) (c .before .before .before .before .before .before .put-fields .ensures))
+    (put-put _ _ _ _ _ _ _ _ (omega arith) (w .put-word .ensures) (n .put-fields .ensures))
     (c .before .before .put-byte .ensures))
 
 pub put-line-spec : {M : Type 1} → statement M

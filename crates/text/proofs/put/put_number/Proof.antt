@@ -1,4 +1,4 @@
--- `put_number` stores the digits, and the place after them is so many places on. Assumes nothing.
+-- `put_number` stores the digits, and the place after them is as many places on. Assumes nothing.
 use borrow.Author.Needs.{needs}
 use Rattle.text.proofs.put.put_number.Statement.{statement}
 use Rattle.text.proofs.put.put_number.Tie as tie

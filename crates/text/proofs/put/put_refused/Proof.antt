@@ -1,3 +1,4 @@
+-- `put_refused` puts the line of the refusal's number and the text's line. Assumes nothing.
 use mathlib.Core.Path.{ap}
 use mathlib.Core.List.{[], _∷_}
 use Prim.Native.Nat.{ℕ}
@@ -10,8 +11,10 @@ use Rattle.text.proofs.put.put_refused.Tie as tie
 
 returns : tie.Need-returns
 returns c =
-    let a = c .before .before .before .before .before .before .before .before .args in
-    put-same _ _ _ _ _ _ (ap (λ (n : ℕ). lineOf refusedWord (n ∷ a .fault .line ∷ [])) (c .before .before .before .before .before .before .code .ensures)) (c .before .before .put-line .ensures)
+    let p = c .before .before in
+    let k = p .before .before .before .before in
+    let line = k .before .before .args .fault .line in
+    put-same _ _ _ _ _ _ (ap (λ (n : ℕ). lineOf refusedWord (n ∷ line ∷ [])) (k .code .ensures)) (p .put-line .ensures)
 
 pub put-refused-spec : {M : Type 1} → statement M
 put-refused-spec =

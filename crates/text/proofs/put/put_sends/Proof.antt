@@ -1,9 +1,11 @@
+-- `put_sends` puts the lines of the sends in turn (`Putting`), none beyond the array. The measure is how many are left. Assumes nothing.
 use mathlib.Core.Path.{_≡_, refl, ap}
 use Prim.Native.Nat.{_-_, _≤_, min}
 use native.Mathlib.Omega.{arith}
 use lib.ListN.{length, take}
 use Rattle.document.specs.Program.{sendLines}
-use Rattle.text.specs.SendLines.{send-more, take-min}
+use Rattle.laws.specs.Taken.{take-min}
+use Rattle.text.specs.SendLines.{send-more}
 use Rattle.text.specs.Put.{Putting, putting-start, putting-more, putting-done}
 use borrow.Author.Needs.{needs}
 use Rattle.model.specs.Limits.{mostChannels}
@@ -11,7 +13,9 @@ use Rattle.text.proofs.put.put_sends.Statement.{statement}
 use Rattle.text.proofs.put.put_sends.Tie as tie
 
 abbrev Inv-loop : tie.InvT-loop
-Inv-loop out₀ at n sent m place₀ i₀ out place i = (length sent ≡ mostChannels) × (m ≡ min n mostChannels) × (m ≤ mostChannels) × Putting out₀ at (λ k. sendLines (take k sent)) m out place i
+Inv-loop out₀ at n sent m place₀ i₀ out place i =
+    (length sent ≡ mostChannels) × (m ≡ min n mostChannels) × (m ≤ mostChannels)
+    × Putting out₀ at (λ k. sendLines (take k sent)) m out place i
 
 abbrev μ-loop : tie.MeasureT-loop
 μ-loop out₀ at n sent m place₀ i₀ out place i = m - i
@@ -23,17 +27,24 @@ loop-holds c =
 
 loop-again : tie.Need-loop-again Inv-loop μ-loop
 loop-again c =
-    let l = c .before .before .before .before .before .before .loop in
-    let v = l .inv in
-    (v .0, v .1, v .2, putting-more _ _ _ _ _ _ _ (v .3) _ _ _ (c .before .before .before .before .before .loop-test .taken) (omega arith) (send-more (c .before .before .before .before .before .before .before .before .before .args .t3) (l .i) _ (omega arith)) (c .before .before .put-send .ensures))
+    let t = c .before .before .before .before .before in
+    let sent = t .before .before .before .before .args .t3 in
+    let v = t .before .loop .inv in (
+      v .0,
+      v .1,
+      v .2,
+      putting-more _ _ _ _ _ _ _ (v .3) _ _ _ (t .loop-test .taken) (omega arith) (send-more sent (t .before .loop .i) _ (omega arith))
+          (c .before .before .put-send .ensures),
+    )
 
 same-length : tie.Need-same-length Inv-loop μ-loop
 same-length c = c .before .loop .inv .3 .long
 
 returns : tie.Need-returns Inv-loop μ-loop
 returns c =
+    let a = c .before .before .before .before .args in
     let v = c .before .loop .inv in
-    putting-done _ _ _ _ _ _ _ (v .3) _ (c .loop-test .left) (ap sendLines (take-min (c .before .before .before .before .args .t3) (c .before .before .before .before .args .n) _ (v .0) (v .1)))
+    putting-done _ _ _ _ _ _ _ (v .3) _ (c .loop-test .left) (ap sendLines (take-min (a .t3) mostChannels (a .n) _ (v .0) (v .1)))
 
 pub put-sends-spec : {M : Type 1} → statement M
 put-sends-spec =

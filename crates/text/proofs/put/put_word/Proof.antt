@@ -20,7 +20,10 @@ loop-holds : tie.Need-loop-holds Inv-loop μ-loop
 loop-holds c = putting-start _ _ _ _ refl (omega arith)
 
 loop-again : tie.Need-loop-again Inv-loop μ-loop
-loop-again c = putting-more _ _ _ _ _ _ _ (c .before .before .before .before .before .before .loop .inv) _ _ _ (c .before .before .before .before .before .loop-test .taken) (omega arith) (take-next _ _ (c .before .before .before .before .before .loop-test .taken)) (c .before .before .put-byte .ensures)
+loop-again c =
+    let t = c .before .before .before .before .before in
+    putting-more _ _ _ _ _ _ _ (t .before .loop .inv) _ _ _ (t .loop-test .taken) (omega arith) (take-next _ _ (t .loop-test .taken))
+    (c .before .before .put-byte .ensures)
 
 returns : tie.Need-returns Inv-loop μ-loop
 returns c = putting-done _ _ _ _ _ _ _ (c .before .loop .inv) _ (c .loop-test .left) (take-length _)

@@ -6,7 +6,9 @@ use Rattle.text.proofs.reader.flow_fault.Statement.{statement}
 use Rattle.text.proofs.reader.flow_fault.Tie as tie
 
 returns : tie.Need-returns
-returns c = c .flow-fault .ensures ∙ rw (c .before .before .route-of .ensures, c .before .before .before .before .before .before .if1 .taken, le-leb 4 _ (c .before .before .before .before .if2 .taken))
+returns c =
+    let t = c .before .before .before .before in
+    c .flow-fault .ensures ∙ rw (c .before .before .route-of .ensures, t .before .before .if1 .taken, le-leb 4 _ (t .if2 .taken))
 
 returns-2 : tie.Need-returns-2
 returns-2 c = rw (c .before .before .if1 .taken, lt-leb 4 _ (c .if2 .left))

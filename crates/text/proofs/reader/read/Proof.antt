@@ -7,12 +7,16 @@ use Rattle.text.proofs.reader.read.Tie as tie
 
 returns : tie.Need-returns
 returns c =
-    first-refused _ _ (c .before .before .before .before .set-row .ensures) _ (c .before .before .before .first-fault .ensures) (λ q. c .before .if1 .taken (c .before .before .code .ensures ∙ q)) _ (c .blank .ensures)
+    let j = c .before in
+    let f = j .before .before in
+    first-refused _ _ (f .before .set-row .ensures) _ (f .first-fault .ensures) (λ q. j .if1 .taken (j .before .code .ensures ∙ q)) _ (c .blank .ensures)
 
 returns-2 : tie.Need-returns-2
 returns-2 c =
+    let j = c .before .before in
+    let f = j .before .before in
     c .read-flows .ensures
-    ∙ first-read _ _ (c .before .before .before .before .before .set-row .ensures) _ (c .before .before .before .before .first-fault .ensures) (sym (c .before .before .before .code .ensures) ∙ c .before .before .if1 .left)
+    ∙ first-read _ _ (f .before .set-row .ensures) _ (f .first-fault .ensures) (sym (j .before .code .ensures) ∙ j .if1 .left)
 
 pub read-spec : {M : Type 1} → statement M
 read-spec =

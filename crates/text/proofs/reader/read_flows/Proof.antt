@@ -26,9 +26,10 @@ loop-holds c = (c .before .blank .ensures, lines-start _ _ _ _ (c .before .blank
 
 -- the line that the loop has come to
 next-line : (c : tie.After-flow-fault Inv-loop μ-loop)
-    → let l = c .before .before .before .loop in
-    let a = c .before .before .before .before .before .before .before .args in
-    NextLine (a .text .now) (readFlows (setWith (a .map)) (lines (drop (a .from) (a .text .now)))) (l .at) (l .k) (l .set) (c .before .flow-row .result) (c .flow-fault .result)
+    → let l = c .before .before .before in
+    let a = l .before .before .before .before .args in
+    NextLine (a .text .now) (readFlows (setWith (a .map)) (lines (drop (a .from) (a .text .now))))
+    (l .loop .at) (l .loop .k) (l .loop .set) (c .before .flow-row .result) (c .flow-fault .result)
 next-line c =
     record {
       so-far = c .before .before .before .loop .inv .1;
@@ -44,8 +45,9 @@ passed c = sym (c .before .code .ensures) ∙ c .if1 .left
 returns : tie.Need-returns Inv-loop μ-loop
 returns c =
     let j = c .before .before in
+    let f = j .before .before in
     (rw (c .before .line-number-of .ensures) at (c .reading-of .ensures))
-    ∙ lines-refused (next-line (j .before .before)) _ (j .before .before .before .before .before .loop .inv .0) (λ q. j .if1 .taken (j .before .code .ensures ∙ q))
+    ∙ lines-refused (next-line f) _ (f .before .before .before .loop .inv .0) (λ q. j .if1 .taken (j .before .code .ensures ∙ q))
 
 flow-of-requires : tie.Need-flow-of-requires Inv-loop μ-loop
 flow-of-requires c κs = let g = lines-good (next-line (c .before .before)) (passed c) in (g .four, g .few)
@@ -71,8 +73,8 @@ loop-less c = let j = c .before in omega (arith, lines-on (next-line (j .before 
 
 loop-again : tie.Need-loop-again Inv-loop μ-loop
 loop-again c =
-    let j = c .before in
-    (j .before .before .before .before .before .loop .inv .0, lines-more (next-line (j .before .before)) (passed j) _ (c .flow-of .ensures))
+    let f = c .before .before .before in
+    (f .before .before .before .loop .inv .0, lines-more (next-line f) (passed (c .before)) _ (c .flow-of .ensures))
 
 returns-2 : tie.Need-returns-2 Inv-loop μ-loop
 returns-2 c = c .reading-of2 .ensures ∙ lines-done _ _ _ _ _ (c .before .before .loop .inv .1) (c .before .loop-test .left)

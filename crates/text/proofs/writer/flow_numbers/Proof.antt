@@ -20,7 +20,10 @@ loop-again : tie.Need-loop-again Inv-loop μ-loop
 loop-again c = copied-more _ _ _ _ _ (c .before .before .loop .inv) (c .before .loop-test .taken) (c .wide5 .ensures)
 
 returns : tie.Need-returns Inv-loop μ-loop
-returns c = copied-done _ _ _ _ _ _ _ (c .before .loop .inv) (c .loop-test .left) ∙ rw (c .before .before .wide4 .ensures, c .before .before .before .wide3 .ensures, c .before .before .before .before .wide2 .ensures, c .before .before .before .before .before .wide .ensures)
+returns c =
+    let w = c .before .before .before in
+    copied-done _ _ _ _ _ _ _ (c .before .loop .inv) (c .loop-test .left)
+    ∙ rw (c .before .before .wide4 .ensures, w .wide3 .ensures, w .before .wide2 .ensures, w .before .before .wide .ensures)
 
 pub flow-numbers-spec : {M : Type 1} → statement M
 flow-numbers-spec =

@@ -12,13 +12,17 @@ use Rattle.text.proofs.writer.put_flow.Tie as tie
 
 slice-aggregate-put-line-2 : tie.Need-slice-aggregate-put-line-2
 slice-aggregate-put-line-2 c =
-    let l : length (c .before .before .before .before .flow-numbers .result) ≡ 21 = search needs in
-    sym (length-take-le (c .before .before .before .count-of-numbers .result) (c .before .before .before .before .flow-numbers .result) (omega (arith, c .before .before .before .count-of-numbers .ensures .1)))
+    let n = c .before .before .before in
+    let f = n .before .flow-numbers .result in
+    let l : length f ≡ 21 = search needs in
+    sym (length-take-le (n .count-of-numbers .result) f (omega (arith, n .count-of-numbers .ensures .1)))
 
 returns : tie.Need-returns
 returns c =
+    let n = c .before .before .before .before .before .before in
+    let m = n .count-of-numbers in
     put-same _ _ _ _ _ _
-    (ap (lineOf flowWord) (ap (take (c .before .before .before .before .before .before .count-of-numbers .result)) (c .before .before .before .before .before .before .before .flow-numbers .ensures) ∙ line-numbers _ _ (search needs) (c .before .before .before .before .before .before .count-of-numbers .ensures .0)))
+    (ap (lineOf flowWord) (ap (take (m .result)) (n .before .flow-numbers .ensures) ∙ line-numbers _ _ (search needs) (m .ensures .0)))
     (c .before .before .put-line .ensures)
 
 pub put-flow-spec : {M : Type 1} → statement M

@@ -13,21 +13,29 @@ use Rattle.text.proofs.writer.put_flows.Statement.{statement}
 use Rattle.text.proofs.writer.put_flows.Tie as tie
 
 abbrev Inv-loop : tie.InvT-loop
-Inv-loop out₀ at s n place₀ k₀ out place k = (length (s .flows) ≡ mostFlows) × (n ≡ min (s .count) mostFlows) × Putting out₀ at (λ k. flowLines (take k (used s .flows))) n out place k
+Inv-loop out₀ at s n place₀ k₀ out place k =
+    (length (s .flows) ≡ mostFlows) × (n ≡ min (s .count) mostFlows)
+    × Putting out₀ at (λ k. flowLines (take k (used s .flows))) n out place k
 
 abbrev μ-loop : tie.MeasureT-loop
 μ-loop out₀ at s n place₀ k₀ out place k = n - k
 
 loop-holds : tie.Need-loop-holds Inv-loop μ-loop
 unfolding flowLines
-loop-holds c = (simp length-map at (c .before .before .good .1 .1 .0 .1 .1 .1 .1 .0 .1 .0 .1), c .used-flows .ensures .0, putting-start _ _ _ _ refl (omega arith))
+loop-holds c = (
+  simp length-map at (c .before .before .good .1 .1 .0 .1 .1 .1 .1 .0 .1 .0 .1),
+  c .used-flows .ensures .0,
+  putting-start _ _ _ _ refl (omega arith),
+)
 
 loop-again : tie.Need-loop-again Inv-loop μ-loop
 loop-again c =
-    let i = c .before .before .before .before .before .before .loop .inv in (
+    let t = c .before .before .before .before .before in
+    let i = t .before .loop .inv in (
       i .0,
       i .1,
-      putting-more _ _ _ _ _ _ _ (i .2) _ _ _ (c .before .before .before .before .before .loop-test .taken) (omega arith) (flow-next _ (i .0) _ _ (i .1) (c .before .before .before .before .before .loop-test .taken)) (c .before .before .put-flow .ensures),
+      putting-more _ _ _ _ _ _ _ (i .2) _ _ _ (t .loop-test .taken) (omega arith) (flow-next _ (i .0) _ _ (i .1) (t .loop-test .taken))
+          (c .before .before .put-flow .ensures),
     )
 
 same-length : tie.Need-same-length Inv-loop μ-loop

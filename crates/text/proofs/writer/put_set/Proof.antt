@@ -8,9 +8,10 @@ use Rattle.text.proofs.writer.put_set.Tie as tie
 
 returns : tie.Need-returns
 returns c =
-    let s = c .before .before .before .before .before .before .before .before .before .before .before .before .args .s in
+    let l = c .before .before .before .before .before .before in
+    let s = l .before .before .before .before .before .before .args .s in
     put-same _ _ _ _ _ _ (text-parts s)
-    (put-put _ _ _ _ _ _ _ _ (omega arith) (c .before .before .before .before .before .before .put-line .ensures) (c .before .before .put-flows .ensures))
+    (put-put _ _ _ _ _ _ _ _ (omega arith) (l .put-line .ensures) (c .before .before .put-flows .ensures))
 
 pub put-set-spec : {M : Type 1} → statement M
 put-set-spec =

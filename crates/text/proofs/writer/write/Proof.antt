@@ -12,7 +12,8 @@ use Rattle.text.proofs.writer.write.Tie as tie
 returns : tie.Need-returns
 returns c =
     let o = c .before .before .before .before in
-    let a = write-refused _ _ _ (c .before .before .record-fault .ensures) (not-true _ (sym (c .before .refuses .ensures) ∙ c .if1 .taken)) in
+    let y = not-true _ (sym (c .before .refuses .ensures) ∙ c .if1 .taken) in
+    let a = write-refused _ _ _ (c .before .before .record-fault .ensures) y in
     (a .answer, (a .bytes, read-again (o .args .s) (set-held (o .args .s) _ (o .good .0))))
 
 returns-2 : tie.Need-returns-2
@@ -20,7 +21,8 @@ returns-2 c =
     let asked = c .before .before .before .before in
     let o = asked .before .before .before .before in
     let t = c .before .before .write-text .ensures in
-    let a = write-accepted _ _ _ (asked .before .before .record-fault .ensures) (not-false _ (sym (asked .before .refuses .ensures) ∙ asked .if1 .left)) _ _ (t .0) (t .1) in
+    let n = not-false _ (sym (asked .before .refuses .ensures) ∙ asked .if1 .left) in
+    let a = write-accepted _ _ _ (asked .before .before .record-fault .ensures) n _ _ (t .0) (t .1) in
     (a .answer, (a .bytes, read-again (o .args .s) (set-held (o .args .s) _ (o .good .0))))
 
 pub write-spec : {M : Type 1} → statement M
