@@ -124,20 +124,25 @@ pub record NumbersSoFar (s : List ℕ) (from i k : ℕ) (ns : List ℕ) : Type 0
 pub numbers-start : (s : List ℕ) (from : ℕ) → NumbersSoFar s from from 0 (replicate mostNumbers 0)
 numbers-start s from = record { form = refl; few = omega arith; kept = refl; long = refl; size = refl; slow = zero-le }
 
-module _ (s : List ℕ) (from i k : ℕ) (ns : List ℕ) (inv : NumbersSoFar s from i k ns) where
-  -- a tab, and the number after it
-  tabbed-here : getD s i 0 ≡ 9 → drop i s ≡ 9 ∷ drop (i + 1) s
-  tabbed-here e = drop-byte s i 9 e (omega arith) .1
+-- the reading at its next number, which stands after a tab and whose reading says x
+pub record NextNumber (s : List ℕ) (from i k : ℕ) (ns : List ℕ) (x : ℕ × List ℕ) : Type 0 where
+  pub so-far : NumbersSoFar s from i k ns
+  pub tab-is : getD s i 0 ≡ 9
+  pub says : x ≡ numberIn (i + 1) (first (drop (i + 1) s))
 
-  pub numbers-refused : getD s i 0 ≡ 9 → numberIn (i + 1) (first (drop (i + 1) s)) ≡ noValue → noRow ≡ rowIn [] from (drop from s)
-  numbers-refused e h =
+module _ {s : List ℕ} {from i k : ℕ} {ns : List ℕ} {x : ℕ × List ℕ} (a : NextNumber s from i k ns x) where
+  tabbed-here : drop i s ≡ 9 ∷ drop (i + 1) s
+  tabbed-here = drop-byte s i 9 (a .tab-is) (omega arith) .1
+
+  pub numbers-refused : x ≡ noValue → noRow ≡ rowIn [] from (drop from s)
+  numbers-refused h =
       row-refused [] from (drop from s)
-      (inv .form ∙ ap (wellFormed []) (tabbed-here e) ∙ formed-tab (drop (i + 1) s) ∙ rw (number-bad (i + 1) (first (drop (i + 1) s)) h))
+      (a .so-far .form ∙ ap (wellFormed []) tabbed-here ∙ formed-tab (drop (i + 1) s)
+      ∙ rw (number-bad (i + 1) (first (drop (i + 1) s)) (sym (a .says) ∙ h)))
 
-  pub numbers-more : (v next : ℕ) → getD s i 0 ≡ 9 → numberIn (i + 1) (first (drop (i + 1) s)) ≡ valueRead v next
-      → NumbersSoFar s from next (k + 1) (set ns k v)
+  numbers-more : (v next : ℕ) → x ≡ valueRead v next → NumbersSoFar s from next (k + 1) (set ns k v)
   unfolding line
-  numbers-more v next e h = go (number-value (i + 1) (first t) v next h) (past-first t)
+  numbers-more v next h = go (number-value (i + 1) (first t) v next (sym (a .says) ∙ h)) (past-first t)
     where
       t : List ℕ
       t = drop (i + 1) s
@@ -145,15 +150,17 @@ module _ (s : List ℕ) (from i k : ℕ) (ns : List ℕ) (inv : NumbersSoFar s f
       here : (n : ℕ) → next ≡ (i + 1) + n → drop next s ≡ drop n t
       here n q = rw (q, drop-drop n (i + 1) s)
 
-      go : NumberReads (first t) (i + 1) v next → Past t (drop (length (first t)) t) (length (first t)) → NumbersSoFar s from next (k + 1) (set ns k v)
+      go : NumberReads (first t) (i + 1) v next → Past t (drop (length (first t)) t) (length (first t))
+          → NumbersSoFar s from next (k + 1) (set ns k v)
       go r p =
+          let inv = a .so-far in
           let at = here _ (r .place) in
           let split : numbersOf (drop i s) ≡ v ∷ numbersOf (drop next s) =
-          ap numbersOf (tabbed-here e) ∙ numbers-tab t ∙ rw (r .value, at, numbers-past t _ _ p) in
-          let tail : length (line (drop i s)) ≡ suc (length (line t)) = ap (λ (u : List ℕ). length (line u)) (tabbed-here e) in
+          ap numbersOf tabbed-here ∙ numbers-tab t ∙ rw (r .value, at, numbers-past t _ _ p) in
+          let tail : length (line (drop i s)) ≡ suc (length (line t)) = ap (λ (u : List ℕ). length (line u)) tabbed-here in
           let rest : length (line (drop next s)) ≡ length (line (drop (length (first t)) t)) = ap (λ (u : List ℕ). length (line u)) at in
           record {
-            form = inv .form ∙ ap (wellFormed []) (tabbed-here e) ∙ formed-tab t ∙ rw (r .good) (sym (formed-past t _ _ p) ∙ ap (wellFormed []) (sym at));
+            form = inv .form ∙ ap (wellFormed []) tabbed-here ∙ formed-tab t ∙ rw (r .good) (sym (formed-past t _ _ p) ∙ ap (wellFormed []) (sym at));
             few = omega (arith, inv .few, ap length split);
             kept = rw add-one (ap (sets ns k) (sym split) ∙ inv .kept);
             long = length-set ns k v ∙ inv .long;
@@ -161,24 +168,24 @@ module _ (s : List ℕ) (from i k : ℕ) (ns : List ℕ) (inv : NumbersSoFar s f
             slow = omega (arith, inv .slow, r .place);
           }
 
-  -- the array, with the number where it has room for it
-  pub numbers-kept : (v : ℕ) (out : List ℕ) → k < mostNumbers → out ≡ set ns k v → set ns k v ≡ out
-  numbers-kept v out h e = sym e
+  -- the array takes the number where it has room for it
+  pub numbers-next : (v next : ℕ) (out : List ℕ) → set ns k v ≡ out → x ≡ valueRead v next → NumbersSoFar s from next (k + 1) out
+  numbers-next v next out q h = subst (λ (l : List ℕ). NumbersSoFar s from next (k + 1) l) q (numbers-more v next h)
 
   pub numbers-full : (v : ℕ) (out : List ℕ) → mostNumbers ≤ k → out ≡ ns → set ns k v ≡ out
-  numbers-full v out h e = set-out ns k v (omega (arith, inv .long)) ∙ sym e
+  numbers-full v out h e = set-out ns k v (omega (arith, a .so-far .long)) ∙ sym e
 
-  pub numbers-next : (v next : ℕ) (out : List ℕ) → set ns k v ≡ out → getD s i 0 ≡ 9 → numberIn (i + 1) (first (drop (i + 1) s)) ≡ valueRead v next
-      → NumbersSoFar s from next (k + 1) out
-  numbers-next v next out q e h = subst (λ (l : List ℕ). NumbersSoFar s from next (k + 1) l) q (numbers-more v next e h)
+  -- the text goes on here, and the place after the number is further on
+  pub numbers-within : i < length s
+  numbers-within = drop-byte s i 9 (a .tab-is) (omega arith) .0
 
+  pub numbers-on : (v next : ℕ) → x ≡ valueRead v next → i < next
+  numbers-on v next h = omega (arith, number-value (i + 1) (first (drop (i + 1) s)) v next (sym (a .says) ∙ h) .place)
+
+module _ (s : List ℕ) (from i k : ℕ) (ns : List ℕ) (inv : NumbersSoFar s from i k ns) where
   -- a byte that is not 0 stands within the text
   pub numbers-inside : (b : ℕ) → getD s i 0 ≡ b → 0 < b → i < length s
   numbers-inside b e h = drop-byte s i b e h .0
-
-  -- the place after it is further on
-  pub numbers-on : (v next : ℕ) → numberIn (i + 1) (first (drop (i + 1) s)) ≡ valueRead v next → i < next
-  numbers-on v next h = omega (arith, number-value (i + 1) (first (drop (i + 1) s)) v next h .place)
 
   -- an LF, and any other byte
   pub numbers-ended : getD s i 0 ≡ 10 → record { formed = true; count = k; numbers = ns; next = i + 1 } ≡ rowIn [] from (drop from s)
