@@ -17,11 +17,13 @@ module _ (s : FlowSet) (k : ℕ) (below : k < s .count) where
   left = omega arith
 
   -- the flow at k, with what the code found of it
-  pub flows-here : (r : Refusal) → r ≡ recordFlowFault k (flowAt (used s) k) → (refusalNumber r ≡ 0 → ⊥) → faultAt r (k + 2) ≡ flowsFault (used s) k (s .count - k)
+  pub flows-here : (r : Refusal) → r ≡ recordFlowFault k (flowAt (used s) k) → (refusalNumber r ≡ 0 → ⊥)
+      → faultAt r (k + 2) ≡ flowsFault (used s) k (s .count - k)
   unfolding flowsFault
   flows-here r e n = rw (left, ← e, ne-eqb _ _ n)
 
-  pub flows-on : (r : Refusal) → r ≡ recordFlowFault k (exact (flowAt s k)) → refusalNumber r ≡ 0 → flowsFault (used s) k (s .count - k) ≡ flowsFault (used s) (k + 1) (s .count - (k + 1))
+  pub flows-on : (r : Refusal) → r ≡ recordFlowFault k (exact (flowAt s k)) → refusalNumber r ≡ 0
+      → flowsFault (used s) k (s .count - k) ≡ flowsFault (used s) (k + 1) (s .count - (k + 1))
   unfolding flowsFault
   flows-on r e n = rw (left, used-flow s k below, ← e, eq-eqb _ _ n)
 

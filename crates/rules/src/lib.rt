@@ -87,7 +87,7 @@ pub fn map_fault(bits: u16) -> Refusal
     Refusal::Nothing
 }
 
-// Rules 3 to 9 of the flow that is number k, whose route has so many nodes: those beyond the array are never looked at.
+// Rules 3 to 9 of the flow that is number k. Nodes of its route beyond the array are never looked at.
 pub fn flow_fault(
     k: usize,
     period: u16,

@@ -170,8 +170,8 @@ lines-start s from m b e c h =
     start : (s : List ℕ) (from m : ℕ) (b : FlowSet) → b ≡ blankSet
         → Lines s (readFlows (setWith m) (lines (drop from s))) from 0 record { map = record { 0 = m }; count = b .count; flows = b .flows }
     start s from m b e =
-        subst (λ (t : FlowSet). Lines s (readFlows (setWith m) (lines (drop from s))) from 0 record { map = record { 0 = m }; count = t .count; flows = t .flows })
-        (sym e)
+        let r = readFlows (setWith m) (lines (drop from s)) in
+        subst (λ (t : FlowSet). Lines s r from 0 record { map = record { 0 = m }; count = t .count; flows = t .flows }) (sym e)
         record { many = refl; few = omega arith; long = refl; left = refl }
 
 module _ (s : List ℕ) (r : Reading) (at k : ℕ) (t : FlowSet) (inv : Lines s r at k t) where

@@ -62,7 +62,9 @@ unfolding top
 numeral-in zero n h l = subst (λ (f : List ℕ). Numeral n f) (sym (decimal-one n h)) (numeral-one n h)
 numeral-in (suc k) n h l =
     elim (decLe 10 n) [
-      | yes d ↦ subst (λ (f : List ℕ). Numeral n f) (sym (decimal-more n d l)) (numeral-more n (decimal (n / 10)) d (numeral-in k (n / 10) (omega arith) (omega arith)))
+      | yes d ↦
+          let m = numeral-in k (n / 10) (omega arith) (omega arith) in
+          subst (λ (f : List ℕ). Numeral n f) (sym (decimal-more n d l)) (numeral-more n (decimal (n / 10)) d m)
       | no d ↦ subst (λ (f : List ℕ). Numeral n f) (sym (decimal-one n (omega arith))) (numeral-one n (omega arith))
     ]
 
@@ -134,7 +136,8 @@ pub number-decimal : (f : List ℕ) → isNumber f ≡ true → decimal (valueOf
 unfolding isNumber allDigits valueFrom
 number-decimal f h =
     let a = and-l (plain f && allDigits f) (leb (valueOf f) 65535) h in
-    go f (and-l (plain f) (allDigits f) a) (and-r (plain f) (allDigits f) a) (leb-true (valueOf f) 65535 (and-r (plain f && allDigits f) (leb (valueOf f) 65535) h))
+    let v = leb-true (valueOf f) 65535 (and-r (plain f && allDigits f) (leb (valueOf f) 65535) h) in
+    go f (and-l (plain f) (allDigits f) a) (and-r (plain f) (allDigits f) a) v
   where
     apart : (b : ℕ) → (b ≡ 48 → ⊥) → 48 ≤ b → 0 < 0 * 10 + (b - 48)
     apart b n lo = omega arith

@@ -4,8 +4,8 @@ use mathlib.Core.List.{List, [], _∷_, _++_}
 use Prim.Native.Nat.{ℕ, zero, suc, _+_, _-_, _<_, _≤_, zero-le}
 use native.Mathlib.Decide.{decLe}
 use native.Mathlib.Omega.{arith}
-use lib.ListN.{length, getD, take, drop, set, replicate, length-append, length-take, length-set, length-replicate}
-use lib.Seq.{getD-take, getD-drop, ext-getD, getD-set-same, getD-set-other, take-take, take-append-seam}
+use lib.ListN.{length, getD, drop, set, replicate, length-set}
+use lib.Seq.{getD-take, getD-drop, ext-getD, getD-set-same, getD-set-other}
 use Rattle.document.specs.Reader.{pad}
 use Rattle.laws.specs.Padded.{pad-length}
 

@@ -79,7 +79,7 @@ pub line-parts : (w vs : List ℕ) → (w ++ fieldsOf vs) ++ (10 ∷ []) ≡ lin
 unfolding lineOf
 line-parts w vs = append-assoc w (fieldsOf vs) (10 ∷ []) ∙ ap (λ (l : List ℕ). w ++ l) (sym (tabbed-fields vs))
 
--- a putting that has come to item i of a list, of which `f` gives the bytes of the first so many
+-- a putting that has come to item i of a list; `f i` is the bytes of its first i items
 pub record Putting (o : List ℕ) (at : ℕ) (f : ℕ → List ℕ) (m : ℕ) (out : List ℕ) (place i : ℕ) : Type 0 where
   pub put : Put o at (f i) out place
   pub few : i ≤ m

@@ -13,8 +13,6 @@ use borrow.Author.Tests.{leb-true, eqb-true}
 use Rattle.model.specs.declared.kinds.Flow.{Flow}
 use Rattle.model.specs.declared.kinds.FlowSet.{FlowSet}
 use Rattle.model.specs.declared.answers.Reading.{Reading}
-use Rattle.model.specs.declared.answers.Refusal.{Refusal}
-use Rattle.model.specs.declared.answers.Refusal.the-variants.{BadForm}
 use Rattle.model.specs.Limits.{mostFlows, mostNodes}
 use Rattle.model.specs.Refusals.{good}
 use Rattle.model.specs.Sets.{exact, used}
@@ -24,7 +22,7 @@ use Rattle.laws.specs.SumLaws.{and-l, and-r}
 use Rattle.text.specs.Places.{line}
 use Rattle.text.specs.Decimals.{decimal-one}
 use Rattle.text.specs.Put.{fieldsOf, line-parts}
-use Rattle.text.specs.FlowRows.{read-good, read-bad, good-line}
+use Rattle.text.specs.FlowRows.{read-good, read-bad, formed-first, good-line}
 use Rattle.text.specs.FirstRow.{first-good, first-bad, first-formed}
 use Rattle.text.specs.Numerals.{decimal-five}
 use Rattle.text.specs.WrittenLines.{small, line-back, line-small}
@@ -86,7 +84,8 @@ unfolding flowLines
 lines-with [] f = append-nil (lineOf flowWord (flowNumbers f))
 lines-with (g ∷ a) f = rw (lines-with a f, append-assoc)
 
-text-with : (t : FlowSet) (f : Flow) → RoomForFlows t → t .count < mostFlows → textOf (used (withFlow t f)) ≡ textOf (used t) ++ lineOf flowWord (flowNumbers (exact f))
+text-with : (t : FlowSet) (f : Flow) → RoomForFlows t → t .count < mostFlows
+    → textOf (used (withFlow t f)) ≡ textOf (used t) ++ lineOf flowWord (flowNumbers (exact f))
 unfolding textOf used withFlow
 text-with t f r h =
     ap (λ (l : List Flow). lineOf setWord (t .map .0 ∷ []) ++ flowLines l) (used-with t f r h)
@@ -121,12 +120,10 @@ first-passed l ls h = go (good (firstLineFault l)) refl
 
 one-number : (l : List ℕ) → good (firstLineFault l) ≡ true → numbersOf l ≡ getD (numbersOf l) 0 0 ∷ []
 unfolding firstLineFault
-one-number l h = single (numbersOf l) (eqb-true (length (numbersOf l)) 1 (and-r (wellFormed setWord l) _ (passed (wellFormed setWord l && eqb (length (numbersOf l)) 1) _ h)))
+one-number l h =
+    let p = formed-first (wellFormed setWord l && eqb (length (numbersOf l)) 1) _ h .0 in
+    single (numbersOf l) (eqb-true (length (numbersOf l)) 1 (and-r (wellFormed setWord l) _ p))
   where
-    passed : (b : Bool) (x : Refusal) → good (cond b x BadForm) ≡ true → b ≡ true
-    passed true x h = refl
-    passed false x h = absurd (false≢true h)
-
     single : (vs : List ℕ) → length vs ≡ 1 → vs ≡ getD vs 0 0 ∷ []
     single [] h = absurd (omega arith)
     single (v ∷ []) h = refl

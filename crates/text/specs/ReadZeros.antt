@@ -68,7 +68,8 @@ unfolding readFlows
 flows-zeroed [] t z = z
 flows-zeroed (l ∷ ls) t z = go (good (flowLineFault (t .count) l)) refl (flows-zeroed ls (withFlow t (flowOf (numbersOf l))))
   where
-    go : (b : Bool) → good (flowLineFault (t .count) l) ≡ b → (Zeroed (withFlow t (flowOf (numbersOf l))) → Zeroed (readFlows (withFlow t (flowOf (numbersOf l))) ls .set))
+    go : (b : Bool) → good (flowLineFault (t .count) l) ≡ b
+        → (Zeroed (withFlow t (flowOf (numbersOf l))) → Zeroed (readFlows (withFlow t (flowOf (numbersOf l))) ls .set))
         → Zeroed (readFlows t (l ∷ ls) .set)
     go true e ih =
         subst (λ (r : Reading). Zeroed (r .set)) (sym (read-good t l ls e))

@@ -10,7 +10,7 @@ use Rattle.model.specs.declared.kinds.Flow.{Flow}
 use Rattle.model.specs.declared.kinds.FlowSet.{FlowSet}
 use Rattle.model.specs.Limits.{mostFlows, mostNodes}
 use Rattle.model.specs.Refusals.{good}
-use Rattle.model.specs.Sets.{noFlow, used, anyOf, SameSet}
+use Rattle.model.specs.Sets.{noFlow, used, anyOf}
 use Rattle.document.specs.Reader.{ReadAgain, twice, flowFault, flowsFault, recordFault, flowLines, readText, textOf}
 use Rattle.document.specs.Text.{decimalIn, decimal, tabbed, decimals, lineOf}
 use Rattle.text.specs.ReadThenWritten.{longestText, read-written, read-length}

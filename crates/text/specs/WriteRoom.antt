@@ -53,9 +53,11 @@ module _ (s : FlowSet) (buffer m : List ℕ) (q : m ≡ buffer) (n : ℕ) (k : n
         answer = rw (e, y, a);
         bytes =
             rw y
-            (p .stored ∙ ap (λ (o : List ℕ). sets o 0 (textOf s)) q ∙ sets-eq (textOf s) buffer 0 (omega (arith, ap length q)) ∙ rw (zero-add (length (textOf s))));
+            (p .stored ∙ ap (λ (o : List ℕ). sets o 0 (textOf s)) q ∙ sets-eq (textOf s) buffer 0 (omega (arith, ap length q))
+            ∙ rw (zero-add (length (textOf s))));
       }
 
 -- a text that is put where the buffer ends: nothing is stored, and the place after it tells its length
-pub length-found : (o t out : List ℕ) (r : ℕ) → Put o (length o) t out r → length o ≤ lastPlace → (out ≡ o) × (r - length o ≡ min (length t) (lastPlace - length o))
+pub length-found : (o t out : List ℕ) (r : ℕ) → Put o (length o) t out r → length o ≤ lastPlace
+    → (out ≡ o) × (r - length o ≡ min (length t) (lastPlace - length o))
 length-found o t out r p h = (p .stored ∙ sets-out t o (length o) (le-refl (length o)), omega (arith, p .place))

@@ -5,7 +5,7 @@ use mathlib.Core.List.{List, [], _∷_, _++_, append-assoc}
 use Prim.Native.Nat.{ℕ, _+_, _-_}
 use native.Mathlib.Omega.{arith}
 use lib.Dec.{leb, ltb, eqb}
-use borrow.Author.Tests.{ne-eqb, eq-eqb, eqb-true, leb-true, not-true}
+use borrow.Author.Tests.{ne-eqb, eq-eqb, leb-true, not-true}
 use Rattle.document.specs.Text.{same, lines, ended, fields, firstOf, othersOf, isDigit, allDigits, plain, isNumber, allNumbers, valuesOf, valueOf, wellFormed, numbersOf, decimal, tabbed, decimals, lineOf}
 use Rattle.laws.specs.SumLaws.{and-l, and-r, and-i}
 use Rattle.text.specs.Places.{first, more, line, after}
@@ -37,9 +37,10 @@ digits-inside : (f : List ℕ) → allDigits f ≡ true → inside f ≡ true
 unfolding inside allDigits
 digits-inside [] h = refl
 digits-inside (b ∷ f) h =
-    and-i (not (eqb b 10) && not (eqb b 9)) (inside f) (digit-inside b (and-l (isDigit b) (allDigits f) h)) (digits-inside f (and-r (isDigit b) (allDigits f) h))
+    and-i (not (eqb b 10) && not (eqb b 9)) (inside f) (digit-inside b (and-l (isDigit b) (allDigits f) h))
+    (digits-inside f (and-r (isDigit b) (allDigits f) h))
 
--- all fields are of such bytes
+-- every byte of each field is of a field
 unfoldable insides : List (List ℕ) → Bool
 insides [] = true
 insides (f ∷ fs) = inside f && insides fs
@@ -109,7 +110,8 @@ unfolding small fieldsOf noLf
 fields-noLf [] h = refl
 fields-noLf (v ∷ vs) h =
     let l = leb-true v 65535 (and-l (leb v 65535) (small vs) h) in
-    noLf-append (decimal v) (fieldsOf vs) (inside-noLf (decimal v) (digits-inside (decimal v) (numeral v (omega arith) .all))) (fields-noLf vs (and-r (leb v 65535) (small vs) h))
+    noLf-append (decimal v) (fieldsOf vs) (inside-noLf (decimal v) (digits-inside (decimal v) (numeral v (omega arith) .all)))
+    (fields-noLf vs (and-r (leb v 65535) (small vs) h))
 
 same-self : (w : List ℕ) → same w w ≡ true
 unfolding same

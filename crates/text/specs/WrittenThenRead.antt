@@ -13,7 +13,7 @@ use Rattle.model.specs.declared.kinds.ChannelMap.{ChannelMap}
 use Rattle.model.specs.declared.kinds.Flow.{Flow}
 use Rattle.model.specs.declared.kinds.FlowSet.{FlowSet}
 use Rattle.model.specs.declared.answers.Reading.{Reading}
-use Rattle.model.specs.Limits.{mostFlows, mostNodes}
+use Rattle.model.specs.Limits.{mostNodes}
 use Rattle.model.specs.Refusals.{good, faultAt}
 use Rattle.model.specs.Sets.{noFlow, flowAt, exact, used, SameSet}
 use Rattle.document.specs.Reader.{mapFault, recordFlowFault, flowsFault, recordFault, pad, flowOf, withFlow, firstLineFault, flowLineFault, accepted, readFlows, setOf, readLines, readText, flowNumbers, flowLines, textOf}
@@ -100,7 +100,8 @@ flows-added (f ∷ fs) t r g =
           ∙ append-assoc (used t .flows) (f ∷ []) fs;
     }
 
-goods-of : (fs : List Flow) (k : ℕ) → ((i : ℕ) → i < length fs → (good (recordFlowFault (k + i) (getD fs i noFlow)) ≡ true) × Whole (getD fs i noFlow)) → Goods k fs
+goods-of : (fs : List Flow) (k : ℕ)
+    → ((i : ℕ) → i < length fs → (good (recordFlowFault (k + i) (getD fs i noFlow)) ≡ true) × Whole (getD fs i noFlow)) → Goods k fs
 unfolding Goods
 goods-of [] k h = tt
 goods-of (f ∷ fs) k h =
@@ -151,7 +152,8 @@ module _ (s : FlowSet) (st : HeldRecord s) (h : good (recordFault (used s) .refu
   is-whole i l =
       let n : exact (flowAt s i) .nodes ≤ mostNodes =
       subst (λ (f : Flow). f .nodes ≤ mostNodes) (used-flow s i l) (accepted-set (used s) h .flow i (omega (arith, used-count s)) .nodes-le) in
-      subst (λ (f : Flow). Whole f) (sym (used-flow s i l)) (whole-flow (flowAt s i) (st .flow-is i (omega (arith, accepted-set (used s) h .count-le, used-count s))) n)
+      subst (λ (f : Flow). Whole f) (sym (used-flow s i l))
+      (whole-flow (flowAt s i) (st .flow-is i (omega (arith, accepted-set (used s) h .count-le, used-count s))) n)
 
   stored-goods : Goods 0 (used s .flows)
   stored-goods = goods-of (used s .flows) 0 (λ i l. (passes i (omega (arith, all-flows)), is-whole i (omega (arith, all-flows))))

@@ -30,17 +30,20 @@ returns c =
 
 returns-2 : tie.Need-returns-2 Inv-loop μ-loop
 returns-2 c =
-    let s = c .before .before .before .before .before .before .before .args .t1 in
-    let l = c .before .before .before .before .before .before .loop in
-    let r = c .before .before .record-flow-fault in
-    flows-here s (l .k) (omega arith) (r .result) (r .ensures ∙ flow-fault-at s (l .k) (omega arith)) (λ e. c .if2 .taken (c .before .code .ensures ∙ e)) ∙ sym (l .inv .2)
+    let r = c .before .before in
+    let l = r .before .before .before .before in
+    let s = l .before .args .t1 in
+    let k = l .loop .k in
+    let e = r .record-flow-fault .ensures ∙ flow-fault-at s k (omega arith) in
+    flows-here s k (omega arith) _ e (λ z. c .if2 .taken (c .before .code .ensures ∙ z)) ∙ sym (l .loop .inv .2)
 
 loop-again : tie.Need-loop-again Inv-loop μ-loop
 loop-again c =
-    let s = c .before .before .before .before .before .before .before .args .t1 in
-    let l = c .before .before .before .before .before .before .loop in
-    let r = c .before .before .record-flow-fault in
-    (search needs, refl, l .inv .2 ∙ flows-on s (l .k) (omega arith) (r .result) (r .ensures) (sym (c .before .code .ensures) ∙ c .if2 .left))
+    let r = c .before .before in
+    let l = r .before .before .before .before in
+    let e = r .record-flow-fault .ensures in
+    let z = sym (c .before .code .ensures) ∙ c .if2 .left in
+    (search needs, refl, l .loop .inv .2 ∙ flows-on (l .before .args .t1) (l .loop .k) (omega arith) _ e z)
 
 returns-3 : tie.Need-returns-3 Inv-loop μ-loop
 returns-3 c =

@@ -23,12 +23,15 @@ returns-2 c = simp (le-ltb _ _ (c .before .if1 .left), lt-ltb _ _ (above c))
 returns-3 : tie.Need-returns-3
 unfolding routeFault
 returns-3 c =
-    simp (le-ltb _ _ (c .before .before .before .if1 .left), le-ltb _ _ (c .before .before .if2 .left), sym (c .before .repeats .ensures) ∙ c .if3 .taken)
+    let t = c .before .before in
+    simp (le-ltb _ _ (t .before .if1 .left), le-ltb _ _ (t .if2 .left), sym (c .before .repeats .ensures) ∙ c .if3 .taken)
 
 returns-4 : tie.Need-returns-4
 unfolding routeFault
 returns-4 c =
-    simp (le-ltb _ _ (c .before .before .before .before .if1 .left), le-ltb _ _ (c .before .before .before .if2 .left), sym (c .before .before .repeats .ensures) ∙ c .before .if3 .left) (c .work-fault .ensures)
+    let j = c .before in
+    let t = j .before .before in
+    simp (le-ltb _ _ (t .before .if1 .left), le-ltb _ _ (t .if2 .left), sym (j .before .repeats .ensures) ∙ j .if3 .left) (c .work-fault .ensures)
 
 pub route-fault-spec : {M : Type 1} → statement M
 route-fault-spec =

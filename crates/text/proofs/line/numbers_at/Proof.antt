@@ -23,9 +23,6 @@ loop-holds c = numbers-start _ _
 add-number-at : tie.Need-add-number-at Inv-loop μ-loop
 add-number-at c = omega (arith, numbers-inside _ _ _ _ _ (c .before .before .loop .inv) 9 (sym (c .before .byte-at .ensures) ∙ c .if1 .taken) (omega arith))
 
-enum-told : tie.Need-enum-told Inv-loop μ-loop
-enum-told c = search needs
-
 -- the number that the loop has come to
 next-number : (c : tie.After-number-at Inv-loop μ-loop)
     → let l = c .before .before .before in
@@ -85,7 +82,7 @@ numbers-at-spec =
     add-number-at
     (λ c κs. search needs)
     (λ c. search needs)
-    enum-told
+    (λ c. search needs)
     (λ c κs. search needs)
     returns
     (λ c. search needs)
