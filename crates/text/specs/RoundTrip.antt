@@ -33,6 +33,10 @@ same-bytes = read-written
 pub at-most : (s : List ℕ) → good (readText s .fault .refusal) ≡ true → length s ≤ longestText
 at-most = read-length
 
+-- and so has no text of a set that passes the record check more
+pub text-most : (s : FlowSet) → HeldRecord s → good (recordFault (used s) .refusal) ≡ true → length (textOf (used s)) ≤ longestText
+text-most s st h = at-most (textOf (used s)) (read-again s st h .no-fault)
+
 -- and one has as many: each number as long as it may be
 longFlow : Flow
 longFlow =

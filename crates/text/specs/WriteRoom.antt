@@ -1,14 +1,14 @@
 -- What is written of an accepted set, by the buffer's room alone.
-use mathlib.Core.Path.{_≡_, ap, _∙_}
+use mathlib.Core.Path.{_≡_, sym, ap, _∙_}
 use mathlib.Core.Bool.{Bool, true, false, cond}
 use mathlib.Core.List.{List, _++_}
 use Prim.Native.Nat.{ℕ, _+_, _-_, _<_, _≤_, min}
 use native.Mathlib.Nat.{zero-add, le-refl}
 use native.Mathlib.Omega.{arith}
-use lib.Dec.{ltb}
+use lib.Dec.{leb, ltb}
 use lib.ListN.{length, drop}
 use lib.Seq.{sets, sets-eq}
-use borrow.Author.Tests.{lt-ltb, le-ltb}
+use borrow.Author.Tests.{lt-ltb, le-ltb, leb-true, leb-false}
 use Rattle.model.specs.declared.kinds.FlowSet.{FlowSet}
 use Rattle.model.specs.declared.answers.Fault.{Fault}
 use Rattle.model.specs.declared.answers.Written.{Written}
@@ -35,25 +35,26 @@ pub record RoomLeaves (s : FlowSet) (buffer : List ℕ) (w : Written) (out : Lis
   pub answer : w ≡ roomAnswer s (length buffer)
   pub bytes : out ≡ roomInto s buffer
 
--- the buffer is m by now, which is as it was
-module _ (s : FlowSet) (buffer m : List ℕ) (q : m ≡ buffer) (n : ℕ) (k : n ≡ min (length (textOf s)) (lastPlace - length buffer)) where
-  pub room-short : length m < n → (f : Fault) → f ≡ faultAt NoRoom 0 → RoomLeaves s buffer record { fault = f; length = 0 } m
+-- the buffer is m by now, which is as it was; b says whether it has room
+module _ (s : FlowSet) (buffer m : List ℕ) (q : m ≡ buffer) (b : Bool) (k : b ≡ leb (length (textOf s)) (length buffer)) where
+  pub room-short : b ≡ false → (f : Fault) → f ≡ faultAt NoRoom 0 → RoomLeaves s buffer record { fault = f; length = 0 } m
   unfolding roomAnswer roomInto
   room-short h f e =
-      let y = lt-ltb (length buffer) (length (textOf s)) (omega (arith, ap length q)) in
+      let y = lt-ltb (length buffer) (length (textOf s)) (leb-false _ _ (sym k ∙ h)) in
       record { answer = rw (e, y); bytes = q ∙ rw y }
 
-  pub room-enough : n ≤ length m → length m + length m < lastPlace → (out : List ℕ) (r : ℕ) → Put m 0 (textOf s) out r
-      → (f : Fault) → f ≡ noFault → RoomLeaves s buffer record { fault = f; length = n } out
+  pub room-enough : b ≡ true → length (textOf s) ≤ lastPlace → (out : List ℕ) (r : ℕ) → Put m 0 (textOf s) out r
+      → (f : Fault) → f ≡ noFault → RoomLeaves s buffer record { fault = f; length = r } out
   unfolding roomAnswer roomInto
   room-enough h l out r p f e =
-      let y = le-ltb (length buffer) (length (textOf s)) (omega (arith, ap length q)) in
-      let a : n ≡ length (textOf s) = omega (arith, ap length q) in
+      let w : length (textOf s) ≤ length buffer = leb-true _ _ (sym k ∙ h) in
+      let y = le-ltb (length buffer) (length (textOf s)) w in
+      let n : r ≡ length (textOf s) = omega (arith, p .place) in
       record {
-        answer = rw (e, y, a);
+        answer = rw (e, y, n);
         bytes =
             rw y
-            (p .stored ∙ ap (λ (o : List ℕ). sets o 0 (textOf s)) q ∙ sets-eq (textOf s) buffer 0 (omega (arith, ap length q))
+            (p .stored ∙ ap (λ (o : List ℕ). sets o 0 (textOf s)) q ∙ sets-eq (textOf s) buffer 0 (omega arith)
             ∙ rw (zero-add (length (textOf s))));
       }
 
@@ -61,3 +62,8 @@ module _ (s : FlowSet) (buffer m : List ℕ) (q : m ≡ buffer) (n : ℕ) (k : n
 pub length-found : (o t out : List ℕ) (r : ℕ) → Put o (length o) t out r → length o ≤ lastPlace
     → (out ≡ o) × (r - length o ≡ min (length t) (lastPlace - length o))
 length-found o t out r p h = (p .stored ∙ sets-out t o (length o) (le-refl (length o)), omega (arith, p .place))
+
+-- a measured text that is short enough fits where its measure does
+pub room-measured : (o m : List ℕ) (n t : ℕ) → m ≡ o → n ≡ min t (lastPlace - length o) → t + length o ≤ lastPlace
+    → leb n (length m) ≡ leb t (length o)
+room-measured o m n t q e h = let z : n ≡ t = omega arith in rw (z, q)

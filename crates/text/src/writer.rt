@@ -9,7 +9,9 @@ ghost use Rattle.model.specs.Limits.{mostFlows, mostNodes};
 ghost use Rattle.model.specs.Sets.{exact, used};
 ghost use Rattle.document.specs.Text.{flowWord, lineOf};
 ghost use Rattle.text.specs.Put.{Put, lastPlace};
+ghost use lib.Dec.{leb};
 ghost use lib.ListN.{length};
+ghost use Rattle.text.specs.ReadThenWritten.{longestText};
 ghost use Rattle.text.specs.WriteRoom.{roomAnswer, roomInto};
 use crate::put;
 use model::Fault;
@@ -17,6 +19,9 @@ use model::Flow;
 use model::FlowSet;
 use model::Refusal;
 use model::Written;
+
+// The bytes of the longest text of a set that passes the record check.
+const LONGEST: usize = 8138;
 
 // A 16-bit number as a wider one.
 fn wide(n: u16) -> u32
@@ -109,21 +114,37 @@ fn text_length(out: &mut [u8], s: FlowSet) -> usize
     put_set(out, end, s) - end
 }
 
+// Whether a buffer has room for a set's text. One that is as long as the longest text has room for any; for a shorter one the text is
+// measured first.
+fn has_room(out: &mut [u8], s: FlowSet) -> bool
+    requires { ⌜ length (textOf (used s)) ≤ longestText ⌝ }
+    ensures { λ r. ⌜
+        (now (out .exit) ≡ now (out .entry))
+        × (r ≡ leb (length (textOf (used s))) (length (now (out .entry))))
+        ⌝ }
+{
+    if LONGEST <= out.len() {
+        return true;
+    }
+    let n = text_length(out, s);
+    n <= out.len()
+}
+
 // Writes a set's text into the buffer, unless the room refuses it.
 fn write_text(s: FlowSet, out: &mut [u8]) -> Written
+    requires { ⌜ length (textOf (used s)) ≤ longestText ⌝ }
     ensures { λ r. ⌜
         (r ≡ roomAnswer (used s) (length (now (out .entry))))
         × (now (out .exit) ≡ roomInto (used s) (now (out .entry)))
         ⌝ }
 {
-    let n = text_length(out, s);
-    if out.len() < n {
-        let fault = Fault::of(Refusal::NoRoom);
-        return Written { fault, length: 0 };
+    if has_room(out, s) {
+        let length = put_set(out, 0, s);
+        let fault = Fault::none();
+        return Written { fault, length };
     }
-    put_set(out, 0, s);
-    let fault = Fault::none();
-    Written { fault, length: n }
+    let fault = Fault::of(Refusal::NoRoom);
+    Written { fault, length: 0 }
 }
 
 // Writes a set's text into the buffer, unless the record check or the room refuses it. The text of a record that passes the check,

@@ -1,9 +1,11 @@
 -- `write` asks the record check, and then the room decides; any record that it is handed is held in arrays of their lengths and numbers of
 -- 16 bits, of which the round trip is proved. Assumes nothing.
-use mathlib.Core.Path.{sym, _∙_}
+use mathlib.Core.Path.{sym, ap, _∙_}
+use Rattle.model.specs.declared.answers.Fault.{Fault}
+use Rattle.model.specs.Refusals.{good}
 use borrow.Author.Tests.{not-true, not-false}
 use Rattle.text.specs.HeldByCode.{set-held}
-use Rattle.text.specs.RoundTrip.{read-again}
+use Rattle.text.specs.RoundTrip.{read-again, text-most}
 use Rattle.text.specs.WriteAnswers.{write-refused, write-accepted}
 use borrow.Author.Needs.{needs}
 use Rattle.text.proofs.writer.write.Statement.{statement}
@@ -15,6 +17,14 @@ returns c =
     let y = not-true _ (sym (c .before .refuses .ensures) ∙ c .if1 .taken) in
     let a = write-refused _ _ _ (c .before .before .record-fault .ensures) y in
     (a .answer, (a .bytes, read-again (o .args .s) (set-held (o .args .s) _ (o .good .0))))
+
+write-text-requires : tie.Need-write-text-requires
+write-text-requires c κs =
+    let asked = c .before in
+    let s = asked .before .before .before .before .args .s in
+    let held = set-held s _ (asked .before .before .before .before .good .0) in
+    let n = not-false _ (sym (asked .before .refuses .ensures) ∙ asked .if1 .left) in
+    text-most s held (ap (λ (f : Fault). good (f .refusal)) (sym (asked .before .before .record-fault .ensures)) ∙ n)
 
 returns-2 : tie.Need-returns-2
 returns-2 c =
@@ -28,4 +38,4 @@ returns-2 c =
 pub write-spec : {M : Type 1} → statement M
 write-spec =
     tie.close
-    (tie.spec (λ c κs. search needs) (λ c κs. search needs) returns (λ c κs. search needs) (λ c. search needs) returns-2)
+    (tie.spec (λ c κs. search needs) (λ c κs. search needs) returns write-text-requires (λ c. search needs) returns-2)

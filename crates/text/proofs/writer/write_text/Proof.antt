@@ -1,4 +1,4 @@
--- `write_text` asks the room, and writes only then. Assumes nothing.
+-- `write_text` asks for the room, and writes only where there is enough. Assumes nothing beyond its `requires`.
 use native.Mathlib.Omega.{arith}
 use Rattle.text.specs.WriteRoom.{room-short, room-enough}
 use borrow.Author.Needs.{needs}
@@ -7,16 +7,17 @@ use Rattle.text.proofs.writer.write_text.Tie as tie
 
 returns : tie.Need-returns
 returns c =
-    let j = c .before in
-    let t = j .before .before .before .text-length .ensures in
-    let a = room-short _ _ _ (t .0) _ (t .1) (j .if1 .taken) _ (c .of .ensures) in
+    let p = c .before .before .before in
+    let j = p .before .before in
+    let r = j .before .before .before .has-room .ensures in
+    let a = room-enough _ _ _ (r .0) _ (r .1) (j .if1 .taken) (omega arith) _ _ (p .put-set .ensures) _ (c .none .ensures) in
     (a .answer, a .bytes)
 
 returns-2 : tie.Need-returns-2
 returns-2 c =
-    let j = c .before .before .before .before .before in
-    let t = j .before .before .before .text-length .ensures in
-    let a = room-enough _ _ _ (t .0) _ (t .1) (j .if1 .left) (omega arith) _ _ (c .before .before .before .put-set .ensures) _ (c .none .ensures) in
+    let j = c .before in
+    let r = j .before .before .before .has-room .ensures in
+    let a = room-short _ _ _ (r .0) _ (r .1) (j .if1 .left) _ (c .of .ensures) in
     (a .answer, a .bytes)
 
 pub write-text-spec : {M : Type 1} → statement M
@@ -25,9 +26,9 @@ write-text-spec =
     (tie.spec
     (λ c κs. search needs)
     (λ c κs. search needs)
+    (λ c κs. search needs)
     (λ c. search needs)
     returns
-    (λ c κs. search needs)
     (λ c κs. search needs)
     (λ c. search needs)
     returns-2)
