@@ -11,3 +11,4 @@ pub mod Largest
 pub mod TestAnswers
 pub mod Codes
 pub mod Nodes
+pub mod WrittenNumbers

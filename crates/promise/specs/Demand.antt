@@ -36,7 +36,7 @@ use Rattle.promise.specs.SlotsApart.{slot-apart}
 use Rattle.promise.specs.TextHeld.{text-held, text-passes}
 
 -- every one passes
-all-each : (p : ℕ → Bool) (n : ℕ) → allTo p n ≡ true → (i : ℕ) → i < n → p i ≡ true
+pub all-each : (p : ℕ → Bool) (n : ℕ) → allTo p n ≡ true → (i : ℕ) → i < n → p i ≡ true
 unfolding allTo
 all-each p zero h i l = absurd (omega arith)
 all-each p (suc n) h i l =

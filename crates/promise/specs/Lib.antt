@@ -16,3 +16,6 @@ pub mod Demand
 pub mod Named
 pub mod Machines
 pub mod Refuted
+pub mod SentLines
+pub mod Calls
+pub mod FullLines

@@ -1,14 +1,17 @@
 -- Demand 3: what a test of schedulability promises of a slot machine, for any test and any machine, and document 01's two tests. It is said of
 -- what the steps of the machine's run from the fresh state report.
-use mathlib.Core.{Bool.{Bool, true}, List.{List}, Logic.{_≢_}, Path.{_≡_}}
-use Prim.Native.Nat.{ℕ, zero, suc, _+_, _/_, _%_, _^_, _≤_, _<_}
-use lib.ListN.{length, getD}
-use Rattle.model.specs.declared.{answers.Send.{Send}, answers.Stepped.{Stepped}, kinds.FlowSet.{FlowSet}, kinds.State.{State}}
+use mathlib.Core.{Bool.{Bool, true}, List.{List, map}, Logic.{_≢_}, Path.{_≡_}}
+use Prim.Native.Nat.{ℕ, zero, suc, _+_, _*_, _/_, _%_, _^_, _≤_, _<_}
+use lib.ListN.{length, getD, take, drop, replicate}
+use Rattle.model.specs.declared.{answers.Send.{Send}, answers.SlotAnswer.{SlotAnswer}, answers.Stepped.{Stepped}, kinds.FlowSet.{FlowSet}, kinds.State.{State}}
 use Rattle.model.specs.{Refusals.{good}, Sets.{flowAt, freshState, memb, used}}
 use Rattle.document.specs.Reader.{recordFault, readText}
 use Rattle.document.specs.Delay.{ways, workAt, verdictOf, boundsOf}
 use Rattle.model.specs.Limits.{mostChannels, mostNodes, lastSlot}
-use Rattle.document.specs.Machine.{channels, noSend, release}
+use Rattle.document.specs.Text.{lines, numbersOf}
+use Rattle.document.specs.Machine.{channels, noSend, release, stepOf, runOf}
+use Rattle.document.specs.Program.{stateLength, stateBytes, sendNumbers, sendLines, slotState, slotBuffer}
+use Rattle.document.specs.ForC.{verdictForC, boundsForC, slotForC}
 
 -- a slot machine answers a set and a state by a step
 abbrev pub SlotMachine : Type 0
@@ -86,3 +89,66 @@ Promise M = PromiseOf basic M × PromiseOf tightened M
 -- and of accepted texts.
 abbrev pub TextPromise : SlotMachine → Type 0
 TextPromise M = TextPromiseOf basic M × TextPromiseOf tightened M
+
+-- What C calls, in the words of the contracts of `rembasuk_slot`, `rembasuk_verdict` and `rembasuk_bounds`.
+-- A `send` line has at most 36 bytes: its word, a tab before each of its six numbers, which have at most 10, 2, 5, 5, 1 and 2 digits, and LF.
+abbrev pub lineLength : ℕ
+lineLength = 4 + 6 + (10 + 2 + 5 + 5 + 1 + 2) + 1
+
+-- a slot has at most one line for each channel: 576 bytes
+abbrev pub linesLength : ℕ
+linesLength = mostChannels * lineLength
+
+-- the set of a text
+abbrev pub setIn : List ℕ → FlowSet
+setIn text = used (readText text .set)
+
+-- A host keeps 68 bytes, at first zeros, and calls once a slot on what the call before left there. Call t is lent the buffer `lent t`, whatever
+-- it holds. These are the 68 bytes before call t,
+unfoldable pub bytesAt : List ℕ → (ℕ → List ℕ) → ℕ → List ℕ
+bytesAt text lent zero = replicate stateLength 0
+bytesAt text lent (suc t) = slotState (readText text) (bytesAt text lent t) (length (lent t))
+
+-- this is what call t answers,
+abbrev pub answerAt : List ℕ → (ℕ → List ℕ) → ℕ → SlotAnswer
+answerAt text lent t = slotForC text (bytesAt text lent t) (length (lent t))
+
+-- and this its buffer afterwards.
+abbrev pub bufferAt : List ℕ → (ℕ → List ℕ) → ℕ → List ℕ
+bufferAt text lent t = slotBuffer (readText text) (bytesAt text lent t) (lent t)
+
+-- the transmissions of a report
+abbrev pub sendsOf : Stepped → List Send
+sendsOf r = take (r .sends) (r .sent)
+
+-- Call t gives the report r. It is not refused and leaves r's next state; of its buffer as many bytes as it answers are the `send` lines of r, at
+-- most 576, and the further ones stay. Read line by line, those bytes have the slot, flow, ends, try and channel of each transmission.
+pub record Gives (text : List ℕ) (lent : ℕ → List ℕ) (t : ℕ) (r : Stepped) : Type 0 where
+  pub fault : (answerAt text lent t .refusal ≡ 0) × (answerAt text lent t .line ≡ 0)
+  pub next : bytesAt text lent (suc t) ≡ stateBytes (r .next)
+  pub most : answerAt text lent t .length ≤ linesLength
+  pub lines-are : take (answerAt text lent t .length) (bufferAt text lent t) ≡ sendLines (sendsOf r)
+  pub further : drop (answerAt text lent t .length) (bufferAt text lent t) ≡ drop (answerAt text lent t .length) (lent t)
+  pub numbers : map numbersOf (lines (take (answerAt text lent t .length) (bufferAt text lent t))) ≡ map sendNumbers (sendsOf r)
+
+-- n calls are the first n slots of the machine's run: the 68 bytes are its state, and each call gives its slot's report.
+pub record Runs (text : List ℕ) (lent : ℕ → List ℕ) (n : ℕ) : Type 0 where
+  pub state : bytesAt text lent n ≡ stateBytes (runOf (setIn text) n .last)
+  pub calls : (t : ℕ) → t < n → Gives text lent t (report stepOf (setIn text) t)
+
+-- Demand 3 for C: of every text that the reader accepts, with 576 bytes or more lent to each call. Where the verdict answers 1 for a test, the run
+-- whose lines the calls give keeps the bounds that the bounds' call answers.
+abbrev pub PromiseForC : Type 0
+PromiseForC = (text : List ℕ) → good (readText text .fault .refusal) ≡ true
+    → (lent : ℕ → List ℕ) → ((t : ℕ) → linesLength ≤ length (lent t)) → (n : ℕ) → n ≤ lastSlot
+    → Runs text lent n
+    × (verdictForC text .basic ≡ 1 → Kept stepOf (setIn text) (λ k. boundsForC text k .basic) n)
+    × (verdictForC text .tightened ≡ 1 → Kept stepOf (setIn text) (λ k. boundsForC text k .tightened) n)
+
+-- And no fewer bytes will do: there is a text that the reader accepts, and a slot of its run, in which a call with less room is refused with 10.
+pub record NoFewer : Type 0 where
+  pub text : List ℕ
+  pub read : good (readText text .fault .refusal) ≡ true
+  pub slot : ℕ
+  pub before-last : slot < lastSlot
+  pub refused : (room : ℕ) → room < linesLength → slotForC text (stateBytes (runOf (setIn text) slot .last)) room .refusal ≡ 10

@@ -32,12 +32,12 @@ pub filled-at : {A : Type 0} (n : ℕ) (d : A) (l : List A) (p : ℕ) → p < le
 filled-at n d l p h k = getD-take n (l ++ replicate n d) p d k ∙ List·getD-append l (replicate n d) d p h
 
 -- as many transmissions as placed packets, each at its place
-sends-length : (s : FlowSet) (st : State) (o : ℕ) (ks : List ℕ) → length (sendsFrom s st o ks) ≡ length ks
+pub sends-length : (s : FlowSet) (st : State) (o : ℕ) (ks : List ℕ) → length (sendsFrom s st o ks) ≡ length ks
 unfolding sendsFrom
 sends-length s st o [] = refl
 sends-length s st o (k ∷ ks) = ap suc (sends-length s st (o + 1) ks)
 
-sends-at : (s : FlowSet) (st : State) (o : ℕ) (ks : List ℕ) (p : ℕ) → p < length ks
+pub sends-at : (s : FlowSet) (st : State) (o : ℕ) (ks : List ℕ) (p : ℕ) → p < length ks
     → getD (sendsFrom s st o ks) p noSend ≡ sendOf s st (getD ks p 0) (o + p)
 unfolding sendsFrom
 sends-at s st o [] p h = absurd (omega arith)
@@ -121,11 +121,14 @@ module _ {first : Priority} (o : Ordering first) where
     send-is k t p h =
         let n = number-eq o s g k t (omega arith) in
         record {
-          which = (state-slot o s g t (omega arith), refl, ap (λ (i : ℕ). i % flowAt s k .tries) n);
+          which = (omega (arith, state-slot o s g t (omega arith)), refl, ap (λ (i : ℕ). i % flowAt s k .tries) n);
           from = link-from (flowAt s k .route) (hadAt s (stateAt first s t) k / flowAt s k .tries)
               ∙ ap (λ (i : ℕ). getD (flowAt s k .route) (i / flowAt s k .tries) 0) n;
-          to = link-to (flowAt s k .route) (hadAt s (stateAt first s t) k / flowAt s k .tries)
-              ∙ ap (λ (i : ℕ). getD (flowAt s k .route) (i / flowAt s k .tries + 1) 0) n;
+          to = omega (
+            arith,
+            link-to (flowAt s k .route) (hadAt s (stateAt first s t) k / flowAt s k .tries),
+            ap (λ (i : ℕ). getD (flowAt s k .route) (i / flowAt s k .tries + 1) 0) n,
+          );
         }
 
     -- a placed packet's transmission is reported, as rule 3 has it

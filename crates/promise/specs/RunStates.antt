@@ -7,7 +7,7 @@ use native.Mathlib.Decide.{decLe}
 use native.Mathlib.Numerals.{add-one}
 use native.Mathlib.Omega.{arith}
 use lib.Dec.{ltb, eqb}
-use lib.ListN.{replicate, getD-replicate, length-replicate, List·getD-eq-default}
+use lib.ListN.{length, replicate, getD-replicate, length-replicate, List·getD-eq-default}
 use borrow.Author.Tests.{ltb-true, leb-true, eqb-true, lt-ltb, le-ltb, le-leb, lt-leb}
 use Rattle.model.specs.declared.kinds.FlowSet.{FlowSet}
 use Rattle.model.specs.declared.kinds.State.{State}
@@ -157,6 +157,11 @@ module _ {first : Priority} (o : Ordering first) where
   unfolding stepWith
   sound-step s t st g h i = rw (sound-fault s t st g h i)
 
+  -- the next state has a count for each of 64 flows
+  next-length : (s : FlowSet) (st : State) → length (nextWith first s st .sent) ≡ mostFlows
+  unfolding nextWith
+  next-length s st = list-length (λ k. cond (ltb k (s .count)) (countWith first s st k) 0) mostFlows
+
   -- so it is in every slot of the run
   fresh-state : (s : FlowSet) → stateAt first s 0 ≡ freshState
   unfolding runWith
@@ -184,11 +189,19 @@ module _ {first : Priority} (o : Ordering first) where
     pub state-next : (t : ℕ) → t < lastSlot → stateAt first s (t + 1) ≡ nextWith first s (stateAt first s t)
     state-next t h = rw add-one (sound-state s t g h (run-sound s g few t (omega arith)))
 
+    pub state-length : (t : ℕ) → t ≤ lastSlot → length (stateAt first s t .sent) ≡ mostFlows
+    state-length zero h = rw (fresh-state s) (length-replicate {A = ℕ} mostFlows 0)
+    state-length (suc t) h =
+        ap (λ (st : State). length (st .sent)) (sound-state s t g h (run-sound s g few t (omega arith))) ∙ next-length s (stateAt first s t)
+
     step-slot : (t : ℕ) → t < lastSlot → stepWith first s (stateAt first s t) .next .slot .0 ≡ t + 1
     unfolding runWith
     step-slot t h = rw add-one (state-slot (suc t) h)
 
-    -- its report is that of a step which is not refused
+    -- its step is not refused, and its report is that of the step
+    pub state-good : (t : ℕ) → t < lastSlot → good (stepFault s (stateAt first s t) .refusal) ≡ true
+    state-good t h = sound-fault s t (stateAt first s t) g h (run-sound s g few t (omega arith))
+
     pub report-good : (t : ℕ) → t < lastSlot → report (stepWith first) s t ≡ stepIfWith first s (stateAt first s t) true
     report-good t h = report-step s t ∙ sound-step s t (stateAt first s t) g h (run-sound s g few t (omega arith))
 

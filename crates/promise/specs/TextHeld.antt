@@ -9,7 +9,7 @@ use native.Mathlib.Decide.{decLe}
 use native.Mathlib.Omega.{arith}
 use lib.Dec.{leb, eqb}
 use lib.ListN.{length, getD, drop, set, length-drop, length-set, length-replicate}
-use lib.Seq.{getD-set-same, getD-set-other}
+use lib.Seq.{getD-drop, getD-set-same, getD-set-other}
 use borrow.Author.Tests.{leb-true}
 use Rattle.model.specs.declared.kinds.Flow.{Flow}
 use Rattle.model.specs.declared.kinds.FlowSet.{FlowSet}
@@ -45,12 +45,31 @@ flows-good s (suc n) k h =
     or-else-by (faultAt (recordFlowFault k (flowAt s k)) (k + 2)) (flowsFault s (k + 1) n) (h k (le-refl k) (omega arith))
     (flows-good s n (k + 1) (λ i l u. h i (omega arith) (omega arith)))
 
+-- the numbers of a line have 16 bits
+values-small : (fs : List (List ℕ)) → allNumbers fs ≡ true → (i : ℕ) → getD (valuesOf fs) i 0 ≤ 65535
+unfolding allNumbers valuesOf isNumber
+values-small [] h i = zero-le
+values-small (f ∷ fs) h zero =
+    let e : leb (valueOf f) 65535 ≡ true = search (and-l, and-r) in
+    leb-true (valueOf f) 65535 e
+values-small (f ∷ fs) h (suc i) = values-small fs (and-r (isNumber f) (allNumbers fs) h) i
+
+numbers-small : (word l : List ℕ) → wellFormed word l ≡ true → (i : ℕ) → getD (numbersOf l) i 0 ≤ 65535
+unfolding wellFormed numbersOf
+numbers-small word l h i =
+    let e : allNumbers (othersOf (fields l)) ≡ true = search (and-l, and-r) in
+    values-small (othersOf (fields l)) e i
+
+-- a flow that passes as number k, whose nodes have 16 bits
+abbrev Passes : ℕ → Flow → Type 0
+Passes k f = (good (recordFlowFault k (exact f)) ≡ true) × ((i : ℕ) → getD (exact f .route) i 0 ≤ 65535)
+
 -- What the reader's set has after each line.
 record HeldSoFar (s : FlowSet) : Type 0 where
   map-good : good (mapFault (s .map .0)) ≡ true
   bits : s .map .0 ≤ 65535
   size : length (s .flows) ≡ mostFlows
-  flow : (k : ℕ) → k < s .count → (good (recordFlowFault k (exact (flowAt s k))) ≡ true) × (length (flowAt s k .route) ≡ mostNodes)
+  flow : (k : ℕ) → k < s .count → Passes k (flowAt s k) × (length (flowAt s k .route) ≡ mostNodes)
 
 -- a set with these passes the record check, and is held as the code holds it
 read-passes : (s : FlowSet) → HeldSoFar s → good (recordFault (used s) .refusal) ≡ true
@@ -62,18 +81,20 @@ read-passes s r =
     each : (i : ℕ) → 0 ≤ i → i < 0 + used s .count → good (recordFlowFault i (flowAt (used s) i)) ≡ true
     each i l u =
         let c : i < s .count = omega (arith, used-count s) in
-        rw (used-flow s i c) (r .flow i c .0)
+        rw (used-flow s i c) (r .flow i c .0 .0)
 
 read-held : (s : FlowSet) → HeldSoFar s → Held s
 read-held s r = (omega (arith, r .bits), λ k l. r .flow k l .1)
 
 -- the flow of a good line passes as a record
 line-flow : (k : ℕ) (l : List ℕ) → good (flowLineFault k l) ≡ true
-    → (k < mostFlows) × (good (recordFlowFault k (exact (flowOf (numbersOf l)))) ≡ true)
+    → (k < mostFlows) × Passes k (flowOf (numbersOf l))
 unfolding flowLineFault flowOf
 line-flow k l h =
     let vs = numbersOf l in
-    let g = cond-good (wellFormed flowWord l && leb 4 (length vs)) _ BadForm refl h .1 in
+    let d = cond-good (wellFormed flowWord l && leb 4 (length vs)) _ BadForm refl h in
+    let g = d .1 in
+    let small = numbers-small flowWord l (and-l (wellFormed flowWord l) _ (d .0)) in
     let f : Flow =
     record {
       period = record { 0 = getD vs 0 0 };
@@ -86,7 +107,7 @@ line-flow k l h =
     let w = good-flow k f g in
     let n : length (drop 4 vs) ≡ length vs - 4 = length-drop 4 vs in
     let e = pad-take mostNodes (drop 4 vs) (rw n (w .1 .nodes-le)) in
-    (w .0, rw (← n, e) (rw n g))
+    (w .0, (rw (← n, e) (rw n g), λ i. rw (← n, e, getD-drop 4 vs i 0) (small (4 + i))))
 
 flow-route : (vs : List ℕ) → length (flowOf vs .route) ≡ mostNodes
 unfolding flowOf
@@ -103,11 +124,11 @@ read-more s l r h =
       flow = each;
     }
   where
-    w : (s .count < mostFlows) × (good (recordFlowFault (s .count) (exact (flowOf (numbersOf l)))) ≡ true)
+    w : (s .count < mostFlows) × Passes (s .count) (flowOf (numbersOf l))
     w = line-flow (s .count) l h
 
     each : (k : ℕ) → k < s .count + 1
-        → (good (recordFlowFault k (exact (getD (set (s .flows) (s .count) (flowOf (numbersOf l))) k noFlow))) ≡ true)
+        → Passes k (getD (set (s .flows) (s .count) (flowOf (numbersOf l))) k noFlow)
         × (length (getD (set (s .flows) (s .count) (flowOf (numbersOf l))) k noFlow .route) ≡ mostNodes)
     each k i =
         elim (decLe (s .count) k) [
@@ -141,23 +162,13 @@ read-flows s (l ∷ ls) r h = go (good (flowLineFault (s .count) l)) refl (λ q.
     go true e ih = rw (flows-on s l ls e) (ih (read-more s l r e) (rw (flows-on s l ls e) at h))
     go false e ih = absurd (false≢true (sym e ∙ rw (flows-stop s l ls e) at h))
 
--- the first line's number is a map
-first-number : (fs : List (List ℕ)) → allNumbers fs ≡ true → getD (valuesOf fs) 0 0 ≤ 65535
-unfolding allNumbers valuesOf isNumber
-first-number [] h = zero-le
-first-number (f ∷ fs) h =
-    let e : leb (valueOf f) 65535 ≡ true = search (and-l, and-r) in
-    leb-true (valueOf f) 65535 e
-
 read-first : (l : List ℕ) → good (firstLineFault l) ≡ true → HeldSoFar (setOf l)
-unfolding firstLineFault setOf wellFormed numbersOf
+unfolding firstLineFault setOf
 read-first l h =
     let w = cond-good (wellFormed setWord l && eqb (length (numbersOf l)) 1) (mapFault (getD (numbersOf l) 0 0)) BadForm refl h in
-    let a = and-l (wellFormed setWord l) _ (w .0) in
-    let e : allNumbers (othersOf (fields l)) ≡ true = search (and-l, and-r) in
     record {
       map-good = w .1;
-      bits = first-number (othersOf (fields l)) e;
+      bits = numbers-small setWord l (and-l (wellFormed setWord l) _ (w .0)) 0;
       size = length-replicate mostFlows blankFlow;
       flow = λ k i. absurd (omega arith);
     }
@@ -189,3 +200,11 @@ text-held text h = read-held _ (read-text text h)
 
 pub text-passes : (text : List ℕ) → good (readText text .fault .refusal) ≡ true → good (recordFault (used (readText text .set)) .refusal) ≡ true
 text-passes text h = read-passes _ (read-text text h)
+
+-- its nodes have 16 bits
+pub text-nodes : (text : List ℕ) → good (readText text .fault .refusal) ≡ true
+    → (k i : ℕ) → k < used (readText text .set) .count → getD (flowAt (used (readText text .set)) k .route) i 0 ≤ 65535
+text-nodes text h k i l =
+    let s = readText text .set in
+    let c : k < s .count = rw (used-count s) at l in
+    rw (used-flow s k c) (read-text text h .flow k c .0 .1 i)
