@@ -65,11 +65,17 @@ altering h s st =
       dropped = stepOf s st .dropped;
     }
 
--- the same transmission over another link, as another try, on another channel
+-- the same transmission in another slot
+abbrev redated : Send → (slot : ℕ) → Send
+redated x t =
+    record { slot = record { 0 = t }; flow = x .flow; from = x .from; to = x .to; attempt = x .attempt; offset = x .offset; channel = x .channel }
+
+-- or over another link, as another try, on another channel
 abbrev resent : Send → (from to attempt channel : ℕ) → Send
 resent x a b c d = record { slot = x .slot; flow = x .flow; from = a; to = b; attempt = c; offset = x .offset; channel = d }
 
--- all on the first channel; each on the next channel; from a node to itself; backwards; as the next try; P8's second link before its first
+-- all on the first channel; each on the next channel; from a node to itself; backwards; to another node; as the next try; P8's second link before
+-- its first; in the next slot
 abbrev pub crossed : FlowSet → State → Stepped
 crossed = altering (λ x. resent x (x .from) (x .to) (x .attempt) firstChannel)
 
@@ -82,8 +88,14 @@ looped = altering (λ x. resent x (x .from) (x .from) (x .attempt) (x .channel))
 abbrev pub turned : FlowSet → State → Stepped
 turned = altering (λ x. resent x (x .to) (x .from) (x .attempt) (x .channel))
 
+abbrev pub misled : FlowSet → State → Stepped
+misled = altering (λ x. resent x (x .from) (x .to + 1) (x .attempt) (x .channel))
+
 abbrev pub mistried : FlowSet → State → Stepped
 mistried = altering (λ x. resent x (x .from) (x .to) (x .attempt + 1) (x .channel))
 
 abbrev pub hurried : FlowSet → State → Stepped
 hurried = altering (λ x. resent x (3 - x .from) (5 - x .to) (x .attempt) (x .channel))
+
+abbrev pub misdated : FlowSet → State → Stepped
+misdated = altering (λ x. redated x (x .slot .0 + 1))

@@ -25,7 +25,7 @@ use Rattle.promise.specs.RunStates.{report-slot}
 use Rattle.promise.specs.TextHeld.{text-passes}
 use Rattle.promise.specs.Demand.{text-promise}
 use Rattle.promise.specs.Named.{setFrom, Verdicts, p5, p7, p8, tight, premises}
-use Rattle.promise.specs.Machines.{idle, tiring, choosing, reckless, crowded, backward, altering, crossed, strayed, looped, turned, mistried, hurried}
+use Rattle.promise.specs.Machines.{idle, tiring, choosing, reckless, crowded, backward, altering, crossed, strayed, looped, turned, misled, mistried, hurried, misdated}
 
 -- what is computed of P5, of P8 and of slots of these machines
 record OfP5 (s : FlowSet) : Type 0 where
@@ -44,9 +44,12 @@ record OfP8 (s : FlowSet) : Type 0 where
   flows : s .count ≡ 1
   four : (workAt s 0 ≡ 4) × (boundsOf s 0 .basic ≡ 4) × (release (flowAt s 0) 0 ≡ 0)
   starts : (getD (flowAt s 0 .route) (0 / flowAt s 0 .tries) 0 ≡ 1) × (0 % flowAt s 0 .tries ≡ 0)
+  leads : getD (flowAt s 0 .route) (0 / flowAt s 0 .tries + 1) 0 ≡ 2
   turn : (report turned s 0 .sends ≡ 1) × (send (report turned s 0) 0 .from ≡ 2)
   again : (report mistried s 0 .sends ≡ 1) × (send (report mistried s 0) 0 .attempt ≡ 1)
   hurry : (report hurried s 0 .sends ≡ 1) × (send (report hurried s 0) 0 .from ≡ 2)
+  lead : (report misled s 0 .sends ≡ 1) × (send (report misled s 0) 0 .to ≡ 3)
+  date : (report misdated s 0 .sends ≡ 1) × (send (report misdated s 0) 0 .slot .0 ≡ 1)
 
 record Computed : Type 0 where
   of-p5 : OfP5 (setFrom p5)
@@ -77,9 +80,12 @@ computed =
             flows = refl;
             four = (refl, refl, refl);
             starts = (refl, refl);
+            leads = refl;
             turn = (refl, refl);
             again = (refl, refl);
             hurry = (refl, refl);
+            lead = (refl, refl);
+            date = (refl, refl);
           };
       met = (refl, refl);
       cross = (refl, refl);
@@ -249,7 +255,7 @@ p8-one M f e =
     let p : w .0 ≡ 0 = omega arith in
     rw p at (w .2)
 
--- and it goes from node 1 to node 2, as try 0: not backwards, nor as try 1, nor over the second link.
+-- and it goes from node 1 to node 2, as try 0, in slot 0: not backwards, nor as try 1, nor over the second link,
 pub turned-refuted : Promise turned → ⊥
 turned-refuted f =
     let c = computed .of-p8 in omega (arith, p8-one turned f (c .turn .0) .from, c .turn .1, c .starts .0)
@@ -261,3 +267,12 @@ mistried-refuted f =
 pub hurried-refuted : Promise hurried → ⊥
 hurried-refuted f =
     let c = computed .of-p8 in omega (arith, p8-one hurried f (c .hurry .0) .from, c .hurry .1, c .starts .0)
+
+-- nor to node 3, nor in slot 1.
+pub misled-refuted : Promise misled → ⊥
+misled-refuted f =
+    let c = computed .of-p8 in omega (arith, p8-one misled f (c .lead .0) .to, c .lead .1, c .leads)
+
+pub misdated-refuted : Promise misdated → ⊥
+misdated-refuted f =
+    let c = computed .of-p8 in omega (arith, p8-one misdated f (c .date .0) .which .0, c .date .1)
