@@ -1,5 +1,6 @@
--- The machine's own facts, with any order of priority, in every accepted set, whether a test admits it or not: a slot sends a flow at most once, and what it sends is the
--- transmission whose number is how often the packet was sent before. So each number comes at most once in a packet, in order.
+-- The machine's own facts, with any order of priority, in every accepted set, whether a test admits it or not: a slot sends a flow at most once,
+-- and what it sends is the transmission whose number is how often the packet was sent before. So each number comes at most once in a packet, in
+-- order.
 use mathlib.Core.Path.{_≡_, refl, sym, ap, _∙_}
 use mathlib.Core.Logic.{_≢_}
 use mathlib.Core.Bool.{Bool, true, false}
@@ -52,7 +53,8 @@ same-test false false f h = refl
 module _ {first : Priority} (o : Ordering first) where
   module _ (s : FlowSet) (g : good (recordFault s .refusal) ≡ true) (bits : s .map .0 < 2 ^ mostChannels) where
     -- transmission p is of the flow placed at p
-    flow-eq : (t p : ℕ) → t < lastSlot → p < report (stepWith first) s t .sends → send (report (stepWith first) s t) p .flow ≡ getD (placedWith first s (stateAt first s t)) p 0
+    flow-eq : (t p : ℕ) → t < lastSlot → p < report (stepWith first) s t .sends
+        → send (report (stepWith first) s t) p .flow ≡ getD (placedWith first s (stateAt first s t)) p 0
     unfolding sendOf
     flow-eq t p h l = ap (λ (x : Send). x .flow) (send-eq o s g t p h bits l)
 

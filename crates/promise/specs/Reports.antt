@@ -141,7 +141,8 @@ module _ {first : Priority} (o : Ordering first) where
         (w .0, l, rw (send-eq t (w .0) h b l, w .2) (send-is k t (w .0) h))
 
     -- transmission p of the report is of a packet that is placed
-    pub sent-placed : (t p : ℕ) → t < lastSlot → p < report (stepWith first) s t .sends → placedIn first s (getD (placedWith first s (stateAt first s t)) p 0) t ≡ true
+    pub sent-placed : (t p : ℕ) → t < lastSlot → p < report (stepWith first) s t .sends
+        → placedIn first s (getD (placedWith first s (stateAt first s t)) p 0) t ≡ true
     sent-placed t p h l = memb-at (placedWith first s (stateAt first s t)) p (omega (arith, sends-eq t h))
 
     -- as many as are dropped, and each of them is
@@ -153,5 +154,6 @@ module _ {first : Priority} (o : Ordering first) where
     dropped-eq t p h l =
         let xs = filterTo (droppedWith first s (stateAt first s t)) (s .count) in
         let c = accepted s g .count-le in
+        let e = drops-eq t h in
         ap (λ (r : Stepped). getD (r .dropped) p 0) (report-good o s g t h)
-        ∙ filled-at mostFlows 0 xs p (omega (arith, drops-eq t h)) (omega (arith, drops-eq t h, filter-length (droppedWith first s (stateAt first s t)) (s .count)))
+        ∙ filled-at mostFlows 0 xs p (omega arith) (omega (arith, filter-length (droppedWith first s (stateAt first s t)) (s .count)))

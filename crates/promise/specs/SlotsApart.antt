@@ -1,5 +1,5 @@
--- With any order of priority no slot of the run uses a node or a channel twice: placed links share no node, a link's ends differ since a route has no node twice, and the
--- offsets of a slot are fewer than the channels and so stand for different ones.
+-- With any order of priority no slot of the run uses a node or a channel twice: placed links share no node, a link's ends differ since a route has
+-- no node twice, and the offsets of a slot are fewer than the channels and so stand for different ones.
 use mathlib.Core.Path.{_≡_, refl, sym, _∙_}
 use mathlib.Core.Logic.{_≢_}
 use mathlib.Core.Bool.{Bool, true, false, false≢true}
@@ -79,7 +79,8 @@ module _ {first : Priority} (o : Ordering first) where
         two : (p : ℕ) → p < report (stepWith first) s t .sends → length (linkAt s (stateAt first s t) (flow p)) ≡ 2
         two p l = link-length (flowAt s (flow p) .route) _ (placed-link t (flow p) (sent-placed o s g t p h l))
 
-        ends : (p : ℕ) → p < report (stepWith first) s t .sends → getD (linkAt s (stateAt first s t) (flow p)) 0 0 ≢ getD (linkAt s (stateAt first s t) (flow p)) 1 0
+        ends : (p : ℕ) → p < report (stepWith first) s t .sends
+            → getD (linkAt s (stateAt first s t) (flow p)) 0 0 ≢ getD (linkAt s (stateAt first s t) (flow p)) 1 0
         ends p l e =
             let i = hadAt s (stateAt first s t) (flow p) / flowAt s (flow p) .tries in
             let r = flowAt s (flow p) .route in

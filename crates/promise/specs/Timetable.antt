@@ -106,7 +106,8 @@ module _ {first : Priority} (o : Ordering first) where
     placed-ready k t h e = is-ready k t h (choice o s (stateAt first s t) .only k e .1)
 
     -- the next count, as a sum
-    pub after-eq : (k t : ℕ) → t ≤ lastSlot → flowAt s k .start ≤ t → countWith first s (stateAt first s t) k ≡ numberIn first s k t + bit (placedIn first s k t)
+    pub after-eq : (k t : ℕ) → t ≤ lastSlot → flowAt s k .start ≤ t
+        → countWith first s (stateAt first s t) k ≡ numberIn first s k t + bit (placedIn first s k t)
     unfolding countWith nextCount
     after-eq k t h a = rw (state-slot o s g t h, le-leb (flowAt s k .start) t a)
 

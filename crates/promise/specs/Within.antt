@@ -39,9 +39,9 @@ equation-value n m T D C S v k = refl
 abbrev pub HasReady : (T D a C : ℕ → ℕ) (had : ℕ → ℕ → ℕ) → (k t : ℕ) → Type 0
 HasReady T D a C had k t = (a k ≤ t) × (t < latestRelease (a k) (T k) t + D k) × (had k t < C k)
 
--- What the argument uses of a schedule of n flows on m channels, in the slots before L, whatever its order of priority. Flow l has the period T l, the deadline D l, the start
--- a l and C l transmissions a packet, of which S k l touch k's route. It is placed in the slots t with tx l t, when its packet has made had l t
--- transmissions. In slot t, before t k l says that l is taken before k, and conf t k l that they conflict.
+-- What the argument uses of a schedule of n flows on m channels, in the slots before L, whatever its order of priority. Flow l has the period T l,
+-- the deadline D l, the start a l and C l transmissions a packet, of which S k l touch k's route. It is placed in the slots t with tx l t, when its
+-- packet has made had l t transmissions. In slot t, before t k l says that l is taken before k, and conf t k l that they conflict.
 pub record Schedule (n m L : ℕ) (T D a C : ℕ → ℕ) (S : ℕ → ℕ → ℕ) (tx : ℕ → ℕ → Bool) (had : ℕ → ℕ → ℕ)
     (mark before conf : ℕ → ℕ → ℕ → Bool) : Type 0 where
   pub channels : 0 < m
@@ -259,7 +259,8 @@ module _ {n m L : ℕ} {T D a C : ℕ → ℕ} {S : ℕ → ℕ → ℕ} {tx : �
             | no y ↦ omega arith
             | yes y ↦
                 let d = done-le urgent v fit t (omega arith) so-far l ((t - a l) / T l) p x (omega arith) in
-                let c = sum-more (λ i. bit (tx l (latestRelease (a l) (T l) t + i))) (equationValue n m T D C S v l) (t - latestRelease (a l) (T l) t) (omega arith) in
+                let r = latestRelease (a l) (T l) t in
+                let c = sum-more (λ i. bit (tx l (r + i))) (equationValue n m T D C S v l) (t - r) (omega arith) in
                 omega (arith, s .counted l t p q (w .0))
           ]
         ]
