@@ -8,7 +8,7 @@ use lib.Dec.{leb, ltb, eqb}
 use lib.ListN.{length, getD, length-append}
 use borrow.Author.Tests.{ltb-true, ltb-false, leb-true, le-leb, lt-ltb, ne-eqb}
 use Rattle.document.specs.Text.{isDigit, allDigits, valueFrom, valueOf, valuesOf, decimalIn, decimal, decimals, tabbed, onto, fields, lines}
-use Rattle.laws.specs.SumLaws.{and-l, and-r, and-i}
+use Rattle.laws.specs.SumLaws.{and-l, and-r}
 
 -- the first number of more than k digits
 unfoldable pub tens : ℕ → ℕ

@@ -1,30 +1,29 @@
 -- Demand 3 of what C calls: 68 bytes give the state back, no line is longer than 36 bytes, so no call is refused and the calls are the machine's run.
 use mathlib.Core.Path.{_≡_, refl, sym, ap, _∙_}
 use mathlib.Core.Bool.{Bool, true, false, cond}
-use mathlib.Core.List.{List, [], _∷_, _++_, map}
+use mathlib.Core.List.{List, _++_, map}
 use Prim.Native.Nat.{ℕ, zero, suc, _+_, _*_, _/_, _%_, _^_, _≤_, _<_}
 use native.Mathlib.Nat.{div-add-mod', mod-lt}
 use native.Mathlib.Numerals.{add-one}
 use native.Mathlib.Omega.{arith}
 use lib.Count.{ones-le}
 use lib.Dec.{ltb, eqb}
-use lib.ListN.{length, getD, take, drop, replicate, length-append}
+use lib.ListN.{length, getD, take, drop, replicate}
 use lib.Seq.{take-take, take-at, drop-at}
 use borrow.Author.Tests.{lt-ltb, le-ltb, eq-eqb}
 use Rattle.model.specs.declared.kinds.{FlowSet.{FlowSet}, State.{State}}
 use Rattle.model.specs.declared.answers.{Send.{Send}, SlotAnswer.{SlotAnswer}, Stepped.{Stepped}, VerdictAnswer.{VerdictAnswer}, BoundsAnswer.{BoundsAnswer}}
-use Rattle.model.specs.Limits.{firstChannel, mostChannels, mostFlows, lastSlot}
+use Rattle.model.specs.Limits.{mostChannels, mostFlows, lastSlot}
 use Rattle.model.specs.Refusals.{good, faultAt, noFault}
 use Rattle.model.specs.declared.answers.Refusal.the-variants.{NoRoom}
 use Rattle.model.specs.{Sums.{bit}, Sets.{flowAt, freshState, memb}}
 use Rattle.document.specs.Reader.{recordFault, readText}
 use Rattle.document.specs.Delay.{verdictOf, boundsOf}
-use Rattle.document.specs.Machine.{noSend, filled, sendOf, sendsFrom, sendsAt, placedAt, hadAt, nextState, ahead, stepFault, stepOf, runOf, runWith}
-use Rattle.document.specs.Text.{lines, numbersOf}
+use Rattle.document.specs.Machine.{noSend, filled, sendOf, sendsAt, placedAt, hadAt, ahead, stepOf, runWith}
 use Rattle.document.specs.Program.{stateLength, stateBytes, stateOf, sendNumbers, sendLines, slotLines, slotFault, slotState, slotBuffer}
 use Rattle.document.specs.ForC.{verdictNumbers, boundsNumbers, verdictOfReading, boundsOfReading, slotAnswer, verdictForC, boundsForC, slotForC}
 use Rattle.laws.specs.{Accepted.{accepted}, Members.{memb-at}, RadioChannels.{radio-own, channels-below}, Used.{used-map}, WrittenNumbers.{tens}}
-use Rattle.promise.specs.Promise.{linesLength, setIn, sendsOf, report, bytesAt, answerAt, bufferAt, Gives, Runs, PromiseForC, NoFewer}
+use Rattle.promise.specs.Promise.{linesLength, setIn, numbersIn, sendsOf, report, bytesAt, answerAt, bufferAt, Gives, Runs, PromiseForC, LinesTell, NoFewer}
 use Rattle.promise.specs.Larger.{kept-longer}
 use Rattle.promise.specs.DeadlineOrder.{deadline-order}
 use Rattle.promise.specs.RunStates.{stateAt, choice, state-slot, state-next, state-length, state-good, report-step, report-good}
@@ -205,10 +204,10 @@ module _ (text : List ℕ) (read : good (readText text .fault .refusal) ≡ true
           fault = (ap (λ (x : SlotAnswer). x .refusal) a, ap (λ (x : SlotAnswer). x .line) a);
           next = run-bytes (suc t) h ∙ ap stateBytes (next-is t);
           most = omega (arith, lines-fit t h);
-          lines-are = first ∙ ap sendLines (sym (reported t h));
+          lines = first ∙ ap sendLines (sym (reported t h));
           further = ap (drop (answerAt text lent t .length)) b ∙ drop-at (sendLines (sentIn text t)) _ (answerAt text lent t .length) n
               ∙ ap (λ (k : ℕ). drop k (lent t)) n;
-          numbers = ap (λ (x : List ℕ). map numbersOf (lines x)) first ∙ numbers-back (sentIn text t) (all-short t h)
+          numbers = ap numbersIn first ∙ numbers-back (sentIn text t) (all-short t h)
               ∙ ap (map sendNumbers) (sym (reported t h));
         }
 
@@ -238,10 +237,7 @@ calls-keep text read lent room n h = (
       (demand-3 .1 text read (bit-one _ (sym (ap (λ (v : VerdictAnswer). v .tightened) (verdict-is text read)) ∙ e)) n h),
 )
 
--- A slot's lines tell its transmissions: of any two slots of accepted texts, equal bytes are of equal slot, flow, ends, try and channel of each.
-pub slots-told : (text other : List ℕ) → good (readText text .fault .refusal) ≡ true → good (readText other .fault .refusal) ≡ true
-    → (t u : ℕ) → t < lastSlot → u < lastSlot
-    → sendLines (sendsOf (report stepOf (setIn text) t)) ≡ sendLines (sendsOf (report stepOf (setIn other) u))
-    → map sendNumbers (sendsOf (report stepOf (setIn text) t)) ≡ map sendNumbers (sendsOf (report stepOf (setIn other) u))
-slots-told text other read also t u h k =
+-- A slot's lines tell its transmissions, since their numbers are short.
+pub lines-tell-sends : LinesTell
+lines-tell-sends text other read also t u h k =
     lines-tell _ _ (rw (reported text read t h) (all-short text read t h)) (rw (reported other also u k) (all-short other also u k))

@@ -1,5 +1,5 @@
--- A set that needs all 576 bytes: in every slot 16 flows with two-digit numbers and five-digit nodes are released and due at once. In a release slot
--- no count of the state counts, so any state at a ten-digit slot has those lines, the run's too.
+-- A set that needs all 576 bytes: its last 16 flows, with two-digit numbers and five-digit nodes, are released and due in every slot, and the ten
+-- before them are due before every odd one. So no count of the state matters there: every state at an odd ten-digit slot has those lines, the run's too.
 use mathlib.Core.Path.{_≡_, refl, sym, ap, _∙_}
 use mathlib.Core.Bool.{Bool, true, not, _&&_, cond}
 use mathlib.Core.List.{List, [], _∷_, _++_}
@@ -11,8 +11,8 @@ use lib.Count.{ones, onesIn}
 use lib.ListN.{length, length-append}
 use Rattle.model.specs.declared.kinds.{Flow.{Flow}, FlowSet.{FlowSet}, State.{State}}
 use Rattle.model.specs.Refusals.{good}
-use Rattle.model.specs.Sums.{sumTo, anyTo, allTo}
-use Rattle.model.specs.Sets.{used, anyOf, meet, listTo, filterTo}
+use Rattle.model.specs.Sums.{allTo}
+use Rattle.model.specs.Sets.{used, anyOf, meet}
 use Rattle.document.specs.Text.{setWord, flowWord, same, lines, ended, fields, allDigits, valueFrom, isNumber, allNumbers, valuesOf, wellFormed, numbersOf, decimalIn, decimal, tabbed, decimals, lineOf}
 use Rattle.document.specs.Reader.{twice, flowFault, flowsFault, recordFault, flowOf, withFlow, firstLineFault, flowLineFault, readFlows, setOf, readLines, readText}
 use Rattle.document.specs.Machine.{ready, insert, ordered, place, channelsTo, radioChannel, sendOf, sendsFrom, sendsAt, placedAt, placedWith, ahead, readyAt, clashAt}
@@ -23,41 +23,41 @@ use Rattle.promise.specs.Promise.{lineLength, linesLength, setIn, NoFewe
 use Rattle.promise.specs.{DeadlineOrder.{deadline-order}, RunStates.{state-slot}, TextHeld.{text-passes}, Calls.{stateIn, sentIn, less-refused}}
 use Rattle.promise.specs.Demand.{all-each}
 
--- flows that come later in every second slot, and the 16 that come first in every slot
-unfoldable pub slowFlows : ℕ → List ℕ
-slowFlows zero = []
-slowFlows (suc n) = lineOf flowWord (2 ∷ 1 ∷ 0 ∷ 1 ∷ 1 ∷ 2 ∷ []) ++ slowFlows n
+-- flows that are released and due in even slots, and flows that are in every slot
+unfoldable pub evenFlows : ℕ → List ℕ
+evenFlows zero = []
+evenFlows (suc n) = lineOf flowWord (2 ∷ 1 ∷ 0 ∷ 1 ∷ 1 ∷ 2 ∷ []) ++ evenFlows n
 
-unfoldable pub quickFlows : ℕ → List ℕ
-quickFlows zero = []
-quickFlows (suc n) = lineOf flowWord (1 ∷ 1 ∷ 0 ∷ 1 ∷ (10000 + n) ∷ (20000 + n) ∷ []) ++ quickFlows n
+unfoldable pub slotFlows : ℕ → List ℕ
+slotFlows zero = []
+slotFlows (suc n) = lineOf flowWord (1 ∷ 1 ∷ 0 ∷ 1 ∷ (10000 + n) ∷ (20000 + n) ∷ []) ++ slotFlows n
 
 unfoldable pub crowdedText : List ℕ
-crowdedText = lineOf setWord (65535 ∷ []) ++ slowFlows 10 ++ quickFlows 16
+crowdedText = lineOf setWord (65535 ∷ []) ++ evenFlows 10 ++ slotFlows 16
 
 -- the same as a record
-unfoldable slow : ℕ → List Flow
-slow zero = []
-slow (suc n) = record { period = record { 0 = 2 }; deadline = record { 0 = 1 }; start = 0; tries = 1; nodes = 2; route = 1 ∷ 2 ∷ [] } ∷ slow n
+unfoldable even : ℕ → List Flow
+even zero = []
+even (suc n) = record { period = record { 0 = 2 }; deadline = record { 0 = 1 }; start = 0; tries = 1; nodes = 2; route = 1 ∷ 2 ∷ [] } ∷ even n
 
-unfoldable quick : ℕ → List Flow
-quick zero = []
-quick (suc n) =
+unfoldable each : ℕ → List Flow
+each zero = []
+each (suc n) =
     record { period = record { 0 = 1 }; deadline = record { 0 = 1 }; start = 0; tries = 1; nodes = 2; route = (10000 + n) ∷ (20000 + n) ∷ [] }
-    ∷ quick n
+    ∷ each n
 
 unfoldable crowdedSet : FlowSet
-crowdedSet = record { map = record { 0 = 65535 }; count = 26; flows = slow 10 ++ quick 16 }
+crowdedSet = record { map = record { 0 = 65535 }; count = 26; flows = even 10 ++ each 16 }
 
 abbrev someState : List ℕ → State
 someState sent = record { slot = record { 0 = 1000000001 }; sent = sent }
 
 read : good (readText crowdedText .fault .refusal) ≡ true
-unfolding slowFlows quickFlows crowdedText same lines ended fields allDigits valueFrom isNumber allNumbers valuesOf wellFormed numbersOf decimalIn decimal tabbed decimals lineOf twice flowFault flowsFault recordFault flowOf withFlow firstLineFault flowLineFault readFlows setOf readLines readText anyOf
+unfolding evenFlows slotFlows crowdedText same lines ended fields allDigits valueFrom isNumber allNumbers valuesOf wellFormed numbersOf decimalIn decimal tabbed decimals lineOf twice flowFault flowsFault recordFault flowOf withFlow firstLineFault flowLineFault readFlows setOf readLines readText anyOf
 read = refl
 
 set-is : setIn crowdedText ≡ crowdedSet
-unfolding slowFlows quickFlows crowdedText same lines ended fields allDigits valueFrom isNumber allNumbers valuesOf wellFormed numbersOf decimalIn decimal tabbed decimals lineOf twice flowFault flowsFault recordFault flowOf withFlow firstLineFault flowLineFault readFlows setOf readLines readText anyOf used slow quick crowdedSet
+unfolding evenFlows slotFlows crowdedText same lines ended fields allDigits valueFrom isNumber allNumbers valuesOf wellFormed numbersOf decimalIn decimal tabbed decimals lineOf twice flowFault flowsFault recordFault flowOf withFlow firstLineFault flowLineFault readFlows setOf readLines readText anyOf used even each crowdedSet
 set-is = refl
 
 -- k, k + 1, .. , n numbers in all
@@ -149,7 +149,7 @@ module _ (sent : List ℕ) where
   isSent i = same (sendNumbers (sendOf crowdedSet (someState sent) (10 + i) (0 + i))) (numbersAt i)
 
   computed : (ordered earlier isReady 10 ≡ []) × (allTo goesLast 16 ≡ true) × (allTo isFree 16 ≡ true) × (allTo isSent 16 ≡ true)
-  unfolding slow quick crowdedSet from allTo same insert ready ordered anyOf meet channelsTo radioChannel sendOf ones onesIn
+  unfolding even each crowdedSet from allTo same insert ready ordered anyOf meet channelsTo radioChannel sendOf ones onesIn
   computed = (refl, refl, refl, refl)
 
   placed-are : placedAt crowdedSet (someState sent) ≡ from 10 16
@@ -163,8 +163,8 @@ module _ (sent : List ℕ) where
       let e = same-eq (sendNumbers (sendOf crowdedSet (someState sent) (10 + i) (0 + i))) (numbersAt i) (all-each isSent 16 (computed .3) i h) in
       ap (λ (l : List ℕ). length (lineOf sendWord l)) e ∙ numbers-long i h
 
-  lines-are : length (sendLines (sendsAt crowdedSet (someState sent))) ≡ linesLength
-  lines-are =
+  all-lines : length (sendLines (sendsAt crowdedSet (someState sent))) ≡ linesLength
+  all-lines =
       ap (λ (l : List ℕ). length (sendLines (sendsFrom crowdedSet (someState sent) 0 l))) placed-are
       ∙ lines-all crowdedSet (someState sent) 10 0 16 send-long
 
@@ -173,7 +173,7 @@ full-lines : (st : State) → st .slot .0 ≡ 1000000001 → length (sendLines (
 full-lines st e =
     ap (λ (s : FlowSet). length (sendLines (sendsAt s st))) set-is
     ∙ ap (λ (n : ℕ). length (sendLines (sendsAt crowdedSet (record { slot = record { 0 = n }; sent = st .sent })))) e
-    ∙ lines-are (st .sent)
+    ∙ all-lines (st .sent)
 
 run-lines : length (sendLines (sentIn crowdedText 1000000001)) ≡ linesLength
 run-lines =

@@ -117,6 +117,10 @@ answerAt text lent t = slotForC text (bytesAt text lent t) (length (lent t))
 abbrev pub bufferAt : List ℕ → (ℕ → List ℕ) → ℕ → List ℕ
 bufferAt text lent t = slotBuffer (readText text) (bytesAt text lent t) (lent t)
 
+-- the numbers of each line, as document 01 parts lines and fields and reads numbers
+abbrev pub numbersIn : List ℕ → List (List ℕ)
+numbersIn b = map numbersOf (lines b)
+
 -- the transmissions of a report
 abbrev pub sendsOf : Stepped → List Send
 sendsOf r = take (r .sends) (r .sent)
@@ -127,9 +131,9 @@ pub record Gives (text : List ℕ) (lent : ℕ → List ℕ) (t : ℕ) (r : Step
   pub fault : (answerAt text lent t .refusal ≡ 0) × (answerAt text lent t .line ≡ 0)
   pub next : bytesAt text lent (suc t) ≡ stateBytes (r .next)
   pub most : answerAt text lent t .length ≤ linesLength
-  pub lines-are : take (answerAt text lent t .length) (bufferAt text lent t) ≡ sendLines (sendsOf r)
+  pub lines : take (answerAt text lent t .length) (bufferAt text lent t) ≡ sendLines (sendsOf r)
   pub further : drop (answerAt text lent t .length) (bufferAt text lent t) ≡ drop (answerAt text lent t .length) (lent t)
-  pub numbers : map numbersOf (lines (take (answerAt text lent t .length) (bufferAt text lent t))) ≡ map sendNumbers (sendsOf r)
+  pub numbers : numbersIn (take (answerAt text lent t .length) (bufferAt text lent t)) ≡ map sendNumbers (sendsOf r)
 
 -- n calls are the first n slots of the machine's run: the 68 bytes are its state, and each call gives its slot's report.
 pub record Runs (text : List ℕ) (lent : ℕ → List ℕ) (n : ℕ) : Type 0 where
@@ -144,6 +148,15 @@ PromiseForC = (text : List ℕ) → good (readText text .fault .refusal) ≡ tru
     → Runs text lent n
     × (verdictForC text .basic ≡ 1 → Kept stepOf (setIn text) (λ k. boundsForC text k .basic) n)
     × (verdictForC text .tightened ≡ 1 → Kept stepOf (setIn text) (λ k. boundsForC text k .tightened) n)
+
+-- The lines tell the transmissions: where two slots of accepted texts have equal bytes, slot, flow, ends, try and channel of each are equal.
+abbrev pub linesIn : List ℕ → ℕ → List ℕ
+linesIn text t = sendLines (sendsOf (report stepOf (setIn text) t))
+
+abbrev pub LinesTell : Type 0
+LinesTell = (text other : List ℕ) → good (readText text .fault .refusal) ≡ true → good (readText other .fault .refusal) ≡ true
+    → (t u : ℕ) → t < lastSlot → u < lastSlot → linesIn text t ≡ linesIn other u
+    → map sendNumbers (sendsOf (report stepOf (setIn text) t)) ≡ map sendNumbers (sendsOf (report stepOf (setIn other) u))
 
 -- And no fewer bytes will do: there is a text that the reader accepts, and a slot of its run, in which a call with less room is refused with 10.
 pub record NoFewer : Type 0 where

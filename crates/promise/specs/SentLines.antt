@@ -5,11 +5,11 @@ use Prim.Native.Nat.{ℕ, zero, suc, _+_, _*_, _≤_, _<_}
 use native.Mathlib.Omega.{arith}
 use lib.ListN.{length, getD, length-append}
 use Rattle.model.specs.declared.answers.Send.{Send}
-use Rattle.document.specs.Text.{fields, lines, othersOf, valuesOf, numbersOf, decimal, decimals, tabbed, lineOf}
+use Rattle.document.specs.Text.{fields, lines, numbersOf, decimals, tabbed, lineOf}
 use Rattle.document.specs.Machine.{noSend}
 use Rattle.document.specs.Program.{sendWord, sendNumbers, sendLines}
 use Rattle.laws.specs.WrittenNumbers.{tens, decimal-length, fields-tabbed, lines-tabbed, values-back}
-use Rattle.promise.specs.Promise.{lineLength}
+use Rattle.promise.specs.Promise.{lineLength, numbersIn}
 
 -- a send whose numbers have at most 10, 2, 5, 5, 1 and 2 digits
 pub record Short (x : Send) : Type 0 where
@@ -62,7 +62,7 @@ line-first : (x : Send) (t : List ℕ) → lines (lineOf sendWord (sendNumbers x
 unfolding lineOf lines
 line-first x t = rw (lines-tabbed (sendNumbers x) t)
 
-pub numbers-back : (xs : List Send) → AllShort xs → map numbersOf (lines (sendLines xs)) ≡ map sendNumbers xs
+pub numbers-back : (xs : List Send) → AllShort xs → numbersIn (sendLines xs) ≡ map sendNumbers xs
 unfolding sendLines lines
 numbers-back [] h = refl
 numbers-back (x ∷ xs) h =
@@ -70,4 +70,4 @@ numbers-back (x ∷ xs) h =
 
 -- so equal bytes are of equal sends
 pub lines-tell : (xs ys : List Send) → AllShort xs → AllShort ys → sendLines xs ≡ sendLines ys → map sendNumbers xs ≡ map sendNumbers ys
-lines-tell xs ys h k e = sym (numbers-back xs h) ∙ ap (λ (b : List ℕ). map numbersOf (lines b)) e ∙ numbers-back ys k
+lines-tell xs ys h k e = sym (numbers-back xs h) ∙ ap numbersIn e ∙ numbers-back ys k
