@@ -9,20 +9,20 @@ use native.Mathlib.Omega.{arith}
 use lib.Count.{ones-le}
 use lib.Dec.{ltb, eqb}
 use lib.ListN.{length, getD, take, drop, replicate}
-use lib.Seq.{take-take, take-at, drop-at}
+use lib.Seq.{take-at, drop-at}
 use borrow.Author.Tests.{lt-ltb, le-ltb, eq-eqb}
 use Rattle.model.specs.declared.kinds.{FlowSet.{FlowSet}, State.{State}}
 use Rattle.model.specs.declared.answers.{Send.{Send}, SlotAnswer.{SlotAnswer}, Stepped.{Stepped}, VerdictAnswer.{VerdictAnswer}, BoundsAnswer.{BoundsAnswer}}
 use Rattle.model.specs.Limits.{mostChannels, mostFlows, lastSlot}
-use Rattle.model.specs.Refusals.{good, faultAt, noFault}
+use Rattle.model.specs.Refusals.{good, refusalNumber, faultAt, noFault}
 use Rattle.model.specs.declared.answers.Refusal.the-variants.{NoRoom}
 use Rattle.model.specs.{Sums.{bit}, Sets.{flowAt, freshState, memb}}
 use Rattle.document.specs.Reader.{recordFault, readText}
 use Rattle.document.specs.Delay.{verdictOf, boundsOf}
-use Rattle.document.specs.Machine.{noSend, filled, sendOf, sendsAt, placedAt, hadAt, ahead, stepOf, runWith}
+use Rattle.document.specs.Machine.{noSend, sendOf, sendsAt, placedAt, hadAt, ahead, stepOf, runWith}
 use Rattle.document.specs.Program.{stateLength, stateBytes, stateOf, sendNumbers, sendLines, slotLines, slotFault, slotState, slotBuffer}
 use Rattle.document.specs.ForC.{verdictNumbers, boundsNumbers, verdictOfReading, boundsOfReading, slotAnswer, verdictForC, boundsForC, slotForC}
-use Rattle.laws.specs.{Accepted.{accepted}, Members.{memb-at}, RadioChannels.{radio-own, channels-below}, Used.{used-map}, WrittenNumbers.{tens}}
+use Rattle.laws.specs.{Accepted.{accepted}, Members.{memb-at}, Padded.{take-filled}, RadioChannels.{radio-own, channels-below}, Used.{used-map}, WrittenNumbers.{tens}}
 use Rattle.promise.specs.Promise.{linesLength, setIn, numbersIn, sendsOf, report, bytesAt, answerAt, bufferAt, Gives, Runs, PromiseForC, LinesTell, NoFewer}
 use Rattle.promise.specs.Larger.{kept-longer}
 use Rattle.promise.specs.DeadlineOrder.{deadline-order}
@@ -55,10 +55,6 @@ fresh-bytes = refl
 bytes-length : (st : State) → length (st .sent) ≡ mostFlows → length (stateBytes st) ≡ stateLength
 unfolding stateBytes
 bytes-length st h = omega arith
-
--- an array that has room for its entries shows them all
-take-filled : {A : Type 0} (n : ℕ) (d : A) (l : List A) → length l ≤ n → take (length l) (filled n d l) ≡ l
-take-filled n d l h = take-take (length l) n (l ++ replicate n d) h ∙ take-at l (replicate n d) (length l) refl
 
 -- the state in which slot t begins, and what the slot sends
 abbrev pub stateIn : List ℕ → ℕ → State
@@ -222,6 +218,19 @@ bit-one false e = absurd (omega arith)
 verdict-is : (text : List ℕ) → good (readText text .fault .refusal) ≡ true → verdictForC text ≡ verdictNumbers (verdictOf (setIn text))
 unfolding verdictForC verdictOfReading
 verdict-is text read = rw read
+
+-- and its refusal is 0 just for the texts that the reader accepts
+pub verdict-reads : (text : List ℕ) → verdictForC text .refusal ≡ 0 → good (readText text .fault .refusal) ≡ true
+unfolding verdictForC verdictOfReading
+verdict-reads text e = go (good (readText text .fault .refusal)) refl
+  where
+    go : (b : Bool) → good (readText text .fault .refusal) ≡ b → good (readText text .fault .refusal) ≡ true
+    go true q = q
+    go false q = let z : refusalNumber (readText text .fault .refusal) ≡ 0 = rw q at e in eq-eqb _ 0 z
+
+pub read-verdict : (text : List ℕ) → good (readText text .fault .refusal) ≡ true → verdictForC text .refusal ≡ 0
+unfolding verdictOf
+read-verdict text read = ap (λ (v : VerdictAnswer). v .refusal) (verdict-is text read) ∙ rw (text-passes text read)
 
 bounds-are : (text : List ℕ) (k : ℕ) → good (readText text .fault .refusal) ≡ true → boundsForC text k ≡ boundsNumbers (boundsOf (setIn text) k)
 unfolding boundsForC boundsOfReading

@@ -165,8 +165,11 @@ module _ (sent : List ℕ) where
 
   all-lines : length (sendLines (sendsAt crowdedSet (someState sent))) ≡ linesLength
   all-lines =
-      ap (λ (l : List ℕ). length (sendLines (sendsFrom crowdedSet (someState sent) 0 l))) placed-are
-      ∙ lines-all crowdedSet (someState sent) 10 0 16 send-long
+      omega (
+        arith,
+        ap (λ (l : List ℕ). length (sendLines (sendsFrom crowdedSet (someState sent) 0 l))) placed-are,
+        lines-all crowdedSet (someState sent) 10 0 16 send-long,
+      )
 
 -- So it is in every state at that slot, the run's too, and a call with less room is refused.
 full-lines : (st : State) → st .slot .0 ≡ 1000000001 → length (sendLines (sendsAt (setIn crowdedText) st)) ≡ linesLength

@@ -74,8 +74,8 @@ redated x t =
 abbrev resent : Send → (from to attempt channel : ℕ) → Send
 resent x a b c d = record { slot = x .slot; flow = x .flow; from = a; to = b; attempt = c; offset = x .offset; channel = d }
 
--- all on the first channel; each on the next channel; from a node to itself; backwards; to another node; as the next try; P8's second link before
--- its first; in the next slot
+-- all on the first channel; each on the next channel; from a node to itself; all from one node; all to one node; P7's third flow to its first one's
+-- sender; backwards; to another node; as the next try; P8's second link before its first; in the next slot
 abbrev pub crossed : FlowSet → State → Stepped
 crossed = altering (λ x. resent x (x .from) (x .to) (x .attempt) firstChannel)
 
@@ -84,6 +84,15 @@ strayed = altering (λ x. resent x (x .from) (x .to) (x .attempt) (x .channel + 
 
 abbrev pub looped : FlowSet → State → Stepped
 looped = altering (λ x. resent x (x .from) (x .from) (x .attempt) (x .channel))
+
+abbrev pub fanned : FlowSet → State → Stepped
+fanned = altering (λ x. resent x 9 (x .to) (x .attempt) (x .channel))
+
+abbrev pub gathered : FlowSet → State → Stepped
+gathered = altering (λ x. resent x (x .from) 9 (x .attempt) (x .channel))
+
+abbrev pub answered : FlowSet → State → Stepped
+answered = altering (λ x. resent x (x .from) (cond (eqb (x .to) 5) 1 (x .to)) (x .attempt) (x .channel))
 
 abbrev pub turned : FlowSet → State → Stepped
 turned = altering (λ x. resent x (x .to) (x .from) (x .attempt) (x .channel))

@@ -25,7 +25,7 @@ use Rattle.promise.specs.RunStates.{report-slot}
 use Rattle.promise.specs.TextHeld.{text-passes}
 use Rattle.promise.specs.Demand.{text-promise}
 use Rattle.promise.specs.Named.{setFrom, Verdicts, p5, p7, p8, tight, premises}
-use Rattle.promise.specs.Machines.{idle, tiring, choosing, reckless, crowded, backward, altering, crossed, strayed, looped, turned, misled, mistried, hurried, misdated}
+use Rattle.promise.specs.Machines.{idle, tiring, choosing, reckless, crowded, backward, altering, crossed, strayed, looped, fanned, gathered, answered, turned, misled, mistried, hurried, misdated}
 
 -- what is computed of P5, of P8 and of slots of these machines
 record OfP5 (s : FlowSet) : Type 0 where
@@ -55,6 +55,9 @@ record Computed : Type 0 where
   of-p5 : OfP5 (setFrom p5)
   of-p8 : OfP8 (setFrom p8)
   met : (report reckless (setFrom p7) 0 .sends ≡ 2) × (send (report reckless (setFrom p7) 0) 0 .to ≡ send (report reckless (setFrom p7) 0) 1 .from)
+  fan : (report fanned (setFrom p7) 0 .sends ≡ 2) × (send (report fanned (setFrom p7) 0) 0 .from ≡ send (report fanned (setFrom p7) 0) 1 .from)
+  answer : (report answered (setFrom p7) 0 .sends ≡ 2) × (send (report answered (setFrom p7) 0) 0 .from ≡ send (report answered (setFrom p7) 0) 1 .to)
+  gather : (report gathered (setFrom p7) 0 .sends ≡ 2) × (send (report gathered (setFrom p7) 0) 0 .to ≡ send (report gathered (setFrom p7) 0) 1 .to)
   cross : (report crossed (setFrom p7) 0 .sends ≡ 2) × (send (report crossed (setFrom p7) 0) 0 .channel ≡ send (report crossed (setFrom p7) 0) 1 .channel)
   lost : report backward (setFrom tight) 1 .drops ≡ 1
 
@@ -88,6 +91,9 @@ computed =
             date = (refl, refl);
           };
       met = (refl, refl);
+      fan = (refl, refl);
+      answer = (refl, refl);
+      gather = (refl, refl);
       cross = (refl, refl);
       lost = refl;
     }
@@ -200,12 +206,28 @@ crowded-refuted f =
     let c = computed .of-p5 in
     omega (arith, basic-kept p5 (premises .of-p5) crowded f 1 (omega arith) .apart 0 (omega arith) .few, c .crowd, c .one-way)
 
--- The machine that does not look at conflicts: in slot 0 of P7 it sends two flows that share node 2.
+-- The machine that does not look at conflicts: in slot 0 of P7 it sends two flows that share node 2, the first one's receiver.
 pub reckless-refuted : Promise reckless → ⊥
 reckless-refuted f =
     let c = computed .met in
     let k = basic-kept p7 (premises .of-p7) reckless f 1 (omega arith) in
     k .apart 0 (omega arith) .nodes 0 1 (omega arith) (omega arith) .2 (c .1)
+
+-- Nor may two share a sender, a receiver, or the first one's sender with the other's receiver.
+pub fanned-refuted : Promise fanned → ⊥
+fanned-refuted f =
+    let c = computed .fan in
+    basic-kept p7 (premises .of-p7) fanned f 1 (omega arith) .apart 0 (omega arith) .nodes 0 1 (omega arith) (omega arith) .0 (c .1)
+
+pub gathered-refuted : Promise gathered → ⊥
+gathered-refuted f =
+    let c = computed .gather in
+    basic-kept p7 (premises .of-p7) gathered f 1 (omega arith) .apart 0 (omega arith) .nodes 0 1 (omega arith) (omega arith) .3 (c .1)
+
+pub answered-refuted : Promise answered → ⊥
+answered-refuted f =
+    let c = computed .answer in
+    basic-kept p7 (premises .of-p7) answered f 1 (omega arith) .apart 0 (omega arith) .nodes 0 1 (omega arith) (omega arith) .1 (c .1)
 
 -- The machine that takes the latest deadline first: it drops the packet that is due after slot 1, of a set that the tightened test admits.
 pub backward-refuted : Promise backward → ⊥
