@@ -22,6 +22,7 @@ use Rattle.document.specs.Delay.{verdictOf, boundsOf}
 use Rattle.document.specs.Machine.{noSend, sendOf, sendsAt, placedAt, hadAt, ahead, stepOf, runWith}
 use Rattle.document.specs.Program.{stateLength, stateBytes, stateOf, sendNumbers, sendLines, slotLines, slotFault, slotState, slotBuffer}
 use Rattle.document.specs.ForC.{verdictNumbers, boundsNumbers, verdictOfReading, boundsOfReading, slotAnswer, verdictForC, boundsForC, slotForC}
+use Rattle.laws.specs.TestAnswers.{basic-then-tightened}
 use Rattle.laws.specs.{Accepted.{accepted}, Members.{memb-at}, Padded.{take-filled}, RadioChannels.{radio-own, channels-below}, Used.{used-map}, WrittenNumbers.{tens}}
 use Rattle.promise.specs.Promise.{linesLength, setIn, numbersIn, sendsOf, report, bytesAt, answerAt, bufferAt, Gives, Runs, PromiseForC, LinesTell, NoFewer}
 use Rattle.promise.specs.Larger.{kept-longer}
@@ -55,6 +56,19 @@ fresh-bytes = refl
 bytes-length : (st : State) → length (st .sent) ≡ mostFlows → length (stateBytes st) ≡ stateLength
 unfolding stateBytes
 bytes-length st h = omega arith
+
+-- C is told the tests' own verdicts and bounds
+bit-one : (b : Bool) → bit b ≡ 1 → b ≡ true
+bit-one true e = refl
+bit-one false e = absurd (omega arith)
+
+verdict-is : (text : List ℕ) → good (readText text .fault .refusal) ≡ true → verdictForC text ≡ verdictNumbers (verdictOf (setIn text))
+unfolding verdictForC verdictOfReading
+verdict-is text read = rw read
+
+bounds-are : (text : List ℕ) (k : ℕ) → good (readText text .fault .refusal) ≡ true → boundsForC text k ≡ boundsNumbers (boundsOf (setIn text) k)
+unfolding boundsForC boundsOfReading
+bounds-are text k read = rw read
 
 -- the state in which slot t begins, and what the slot sends
 abbrev pub stateIn : List ℕ → ℕ → State
@@ -147,9 +161,16 @@ module _ (text : List ℕ) (read : good (readText text .fault .refusal) ≡ true
   unfolding slotForC slotAnswer
   call-refused t room h r = rw (call-fault t room h, lt-ltb room (length (sendLines (sentIn text t))) r)
 
-  pub less-refused : (t : ℕ) → t < lastSlot → length (sendLines (sentIn text t)) ≡ linesLength → NoFewer
-  less-refused t h e =
-      record { text = text; read = read; slot = t; before-last = h; refused = λ room r. call-refused t room h (omega arith) }
+  pub less-refused : verdictOf (setIn text) .basic ≡ true → (t : ℕ) → t < lastSlot → length (sendLines (sentIn text t)) ≡ linesLength → NoFewer
+  less-refused v t h e =
+      record {
+        text = text;
+        read = read;
+        admitted = rw (verdict-is text read, v, basic-then-tightened (setIn text) v) (refl, refl);
+        slot = t;
+        before-last = h;
+        refused = λ room r. call-refused t room h (omega arith);
+      }
 
   -- it leaves the next state,
   call-state : (t room : ℕ) → t < lastSlot → linesLength ≤ room
@@ -210,16 +231,7 @@ module _ (text : List ℕ) (read : good (readText text .fault .refusal) ≡ true
     pub calls-run : (n : ℕ) → n ≤ lastSlot → Runs text lent n
     calls-run n h = record { state = run-bytes n h; calls = λ t l. call-gives t (omega arith) }
 
--- C is told the tests' own verdicts and bounds
-bit-one : (b : Bool) → bit b ≡ 1 → b ≡ true
-bit-one true e = refl
-bit-one false e = absurd (omega arith)
-
-verdict-is : (text : List ℕ) → good (readText text .fault .refusal) ≡ true → verdictForC text ≡ verdictNumbers (verdictOf (setIn text))
-unfolding verdictForC verdictOfReading
-verdict-is text read = rw read
-
--- and its refusal is 0 just for the texts that the reader accepts
+-- The verdict's refusal is 0 just for the texts that the reader accepts
 pub verdict-reads : (text : List ℕ) → verdictForC text .refusal ≡ 0 → good (readText text .fault .refusal) ≡ true
 unfolding verdictForC verdictOfReading
 verdict-reads text e = go (good (readText text .fault .refusal)) refl
@@ -231,10 +243,6 @@ verdict-reads text e = go (good (readText text .fault .refusal)) refl
 pub read-verdict : (text : List ℕ) → good (readText text .fault .refusal) ≡ true → verdictForC text .refusal ≡ 0
 unfolding verdictOf
 read-verdict text read = ap (λ (v : VerdictAnswer). v .refusal) (verdict-is text read) ∙ rw (text-passes text read)
-
-bounds-are : (text : List ℕ) (k : ℕ) → good (readText text .fault .refusal) ≡ true → boundsForC text k ≡ boundsNumbers (boundsOf (setIn text) k)
-unfolding boundsForC boundsOfReading
-bounds-are text k read = rw read
 
 -- Demand 3 for C.
 pub calls-keep : PromiseForC

@@ -1,5 +1,5 @@
--- A set that needs all 576 bytes: its last 16 flows, with two-digit numbers and five-digit nodes, are released and due in every slot, and the ten
--- before them are due before every odd one. So no count of the state matters there: every state at an odd ten-digit slot has those lines, the run's too.
+-- An admitted set that needs all 576 bytes. Its last 16 flows, with two-digit numbers and five-digit nodes, are released in slot 1,000,000,100, and
+-- the ten before them are due before it. So no count of the state matters there: every state at that slot has those lines, the run's too.
 use mathlib.Core.Path.{_≡_, refl, sym, ap, _∙_}
 use mathlib.Core.Bool.{Bool, true, not, _&&_, cond}
 use mathlib.Core.List.{List, [], _∷_, _++_}
@@ -11,11 +11,12 @@ use lib.Count.{ones, onesIn}
 use lib.ListN.{length, length-append}
 use Rattle.model.specs.declared.kinds.{Flow.{Flow}, FlowSet.{FlowSet}, State.{State}}
 use Rattle.model.specs.Refusals.{good}
-use Rattle.model.specs.Sums.{allTo}
+use Rattle.model.specs.Sums.{sumTo, allTo}
 use Rattle.model.specs.Sets.{used, anyOf, meet}
 use Rattle.document.specs.Text.{setWord, flowWord, same, lines, ended, fields, allDigits, valueFrom, isNumber, allNumbers, valuesOf, wellFormed, numbersOf, decimalIn, decimal, tabbed, decimals, lineOf}
 use Rattle.document.specs.Reader.{twice, flowFault, flowsFault, recordFault, flowOf, withFlow, firstLineFault, flowLineFault, readFlows, setOf, readLines, readText}
 use Rattle.document.specs.Machine.{ready, insert, ordered, place, channelsTo, radioChannel, sendOf, sendsFrom, sendsAt, placedAt, placedWith, ahead, readyAt, clashAt}
+use Rattle.document.specs.Delay.{conflictWork, share, overOthers, boundWith, basicBound, admits, verdictOf}
 use Rattle.document.specs.Program.{sendWord, sendNumbers, sendLines}
 use borrow.Author.Tests.{eqb-true}
 use Rattle.laws.specs.Rounds.{same-eq}
@@ -23,41 +24,41 @@ use Rattle.promise.specs.Promise.{lineLength, linesLength, setIn, NoFewe
 use Rattle.promise.specs.{DeadlineOrder.{deadline-order}, RunStates.{state-slot}, TextHeld.{text-passes}, Calls.{stateIn, sentIn, less-refused}}
 use Rattle.promise.specs.Demand.{all-each}
 
--- flows that are released and due in even slots, and flows that are in every slot
-unfoldable pub evenFlows : ℕ → List ℕ
-evenFlows zero = []
-evenFlows (suc n) = lineOf flowWord (2 ∷ 1 ∷ 0 ∷ 1 ∷ 1 ∷ 2 ∷ []) ++ evenFlows n
+-- flows that are released every 200 slots and due after 100, and flows that are released every 100 slots
+unfoldable pub rareFlows : ℕ → List ℕ
+rareFlows zero = []
+rareFlows (suc n) = lineOf flowWord (200 ∷ 100 ∷ 0 ∷ 1 ∷ 1 ∷ 2 ∷ []) ++ rareFlows n
 
-unfoldable pub slotFlows : ℕ → List ℕ
-slotFlows zero = []
-slotFlows (suc n) = lineOf flowWord (1 ∷ 1 ∷ 0 ∷ 1 ∷ (10000 + n) ∷ (20000 + n) ∷ []) ++ slotFlows n
+unfoldable pub oftenFlows : ℕ → List ℕ
+oftenFlows zero = []
+oftenFlows (suc n) = lineOf flowWord (100 ∷ 100 ∷ 0 ∷ 1 ∷ (10000 + n) ∷ (20000 + n) ∷ []) ++ oftenFlows n
 
 unfoldable pub crowdedText : List ℕ
-crowdedText = lineOf setWord (65535 ∷ []) ++ evenFlows 10 ++ slotFlows 16
+crowdedText = lineOf setWord (65535 ∷ []) ++ rareFlows 10 ++ oftenFlows 16
 
 -- the same as a record
-unfoldable even : ℕ → List Flow
-even zero = []
-even (suc n) = record { period = record { 0 = 2 }; deadline = record { 0 = 1 }; start = 0; tries = 1; nodes = 2; route = 1 ∷ 2 ∷ [] } ∷ even n
+unfoldable rare : ℕ → List Flow
+rare zero = []
+rare (suc n) = record { period = record { 0 = 200 }; deadline = record { 0 = 100 }; start = 0; tries = 1; nodes = 2; route = 1 ∷ 2 ∷ [] } ∷ rare n
 
-unfoldable each : ℕ → List Flow
-each zero = []
-each (suc n) =
-    record { period = record { 0 = 1 }; deadline = record { 0 = 1 }; start = 0; tries = 1; nodes = 2; route = (10000 + n) ∷ (20000 + n) ∷ [] }
-    ∷ each n
+unfoldable often : ℕ → List Flow
+often zero = []
+often (suc n) =
+    record { period = record { 0 = 100 }; deadline = record { 0 = 100 }; start = 0; tries = 1; nodes = 2; route = (10000 + n) ∷ (20000 + n) ∷ [] }
+    ∷ often n
 
 unfoldable crowdedSet : FlowSet
-crowdedSet = record { map = record { 0 = 65535 }; count = 26; flows = even 10 ++ each 16 }
+crowdedSet = record { map = record { 0 = 65535 }; count = 26; flows = rare 10 ++ often 16 }
 
 abbrev someState : List ℕ → State
-someState sent = record { slot = record { 0 = 1000000001 }; sent = sent }
+someState sent = record { slot = record { 0 = 1000000100 }; sent = sent }
 
 read : good (readText crowdedText .fault .refusal) ≡ true
-unfolding evenFlows slotFlows crowdedText same lines ended fields allDigits valueFrom isNumber allNumbers valuesOf wellFormed numbersOf decimalIn decimal tabbed decimals lineOf twice flowFault flowsFault recordFault flowOf withFlow firstLineFault flowLineFault readFlows setOf readLines readText anyOf
+unfolding rareFlows oftenFlows crowdedText same lines ended fields allDigits valueFrom isNumber allNumbers valuesOf wellFormed numbersOf decimalIn decimal tabbed decimals lineOf twice flowFault flowsFault recordFault flowOf withFlow firstLineFault flowLineFault readFlows setOf readLines readText anyOf
 read = refl
 
 set-is : setIn crowdedText ≡ crowdedSet
-unfolding evenFlows slotFlows crowdedText same lines ended fields allDigits valueFrom isNumber allNumbers valuesOf wellFormed numbersOf decimalIn decimal tabbed decimals lineOf twice flowFault flowsFault recordFault flowOf withFlow firstLineFault flowLineFault readFlows setOf readLines readText anyOf used even each crowdedSet
+unfolding rareFlows oftenFlows crowdedText same lines ended fields allDigits valueFrom isNumber allNumbers valuesOf wellFormed numbersOf decimalIn decimal tabbed decimals lineOf twice flowFault flowsFault recordFault flowOf withFlow firstLineFault flowLineFault readFlows setOf readLines readText anyOf used rare often crowdedSet
 set-is = refl
 
 -- k, k + 1, .. , n numbers in all
@@ -121,7 +122,7 @@ lines-all s st k o (suc n) h =
 
 -- the numbers of line i, and its length
 abbrev numbersAt : ℕ → List ℕ
-numbersAt i = 1000000001 ∷ (10 + i) ∷ (10015 - i) ∷ (20015 - i) ∷ 0 ∷ (11 + (1000000001 + i) % 16) ∷ []
+numbersAt i = 1000000100 ∷ (10 + i) ∷ (10015 - i) ∷ (20015 - i) ∷ 0 ∷ (11 + (1000000100 + i) % 16) ∷ []
 
 all-long : allTo (λ i. eqb (length (lineOf sendWord (numbersAt i))) lineLength) 16 ≡ true
 unfolding allTo decimalIn decimal tabbed decimals lineOf
@@ -149,7 +150,7 @@ module _ (sent : List ℕ) where
   isSent i = same (sendNumbers (sendOf crowdedSet (someState sent) (10 + i) (0 + i))) (numbersAt i)
 
   computed : (ordered earlier isReady 10 ≡ []) × (allTo goesLast 16 ≡ true) × (allTo isFree 16 ≡ true) × (allTo isSent 16 ≡ true)
-  unfolding even each crowdedSet from allTo same insert ready ordered anyOf meet channelsTo radioChannel sendOf ones onesIn
+  unfolding rare often crowdedSet from allTo same insert ready ordered anyOf meet channelsTo radioChannel sendOf ones onesIn
   computed = (refl, refl, refl, refl)
 
   placed-are : placedAt crowdedSet (someState sent) ≡ from 10 16
@@ -172,16 +173,24 @@ module _ (sent : List ℕ) where
       )
 
 -- So it is in every state at that slot, the run's too, and a call with less room is refused.
-full-lines : (st : State) → st .slot .0 ≡ 1000000001 → length (sendLines (sendsAt (setIn crowdedText) st)) ≡ linesLength
+full-lines : (st : State) → st .slot .0 ≡ 1000000100 → length (sendLines (sendsAt (setIn crowdedText) st)) ≡ linesLength
 full-lines st e =
     ap (λ (s : FlowSet). length (sendLines (sendsAt s st))) set-is
     ∙ ap (λ (n : ℕ). length (sendLines (sendsAt crowdedSet (record { slot = record { 0 = n }; sent = st .sent })))) e
     ∙ all-lines (st .sent)
 
-run-lines : length (sendLines (sentIn crowdedText 1000000001)) ≡ linesLength
+-- and both tests admit it
+admitted : verdictOf crowdedSet .basic ≡ true
+unfolding rare often crowdedSet flowFault flowsFault recordFault twice conflictWork share overOthers boundWith basicBound admits verdictOf sumTo allTo anyOf meet ones onesIn
+admitted = refl
+
+text-admitted : verdictOf (setIn crowdedText) .basic ≡ true
+text-admitted = ap (λ (s : FlowSet). verdictOf s .basic) set-is ∙ admitted
+
+run-lines : length (sendLines (sentIn crowdedText 1000000100)) ≡ linesLength
 run-lines =
-    full-lines (stateIn crowdedText 1000000001)
-    (state-slot deadline-order (setIn crowdedText) (text-passes crowdedText read) 1000000001 (omega arith))
+    full-lines (stateIn crowdedText 1000000100)
+    (state-slot deadline-order (setIn crowdedText) (text-passes crowdedText read) 1000000100 (omega arith))
 
 pub no-fewer : NoFewer
-no-fewer = less-refused crowdedText read 1000000001 (omega arith) run-lines
+no-fewer = less-refused crowdedText read text-admitted 1000000100 (omega arith) run-lines

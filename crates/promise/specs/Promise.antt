@@ -158,10 +158,12 @@ LinesTell = (text other : List ℕ) → good (readText text .fault .refusal) ≡
     → (t u : ℕ) → t < lastSlot → u < lastSlot → linesIn text t ≡ linesIn other u
     → map sendNumbers (sendsOf (report stepOf (setIn text) t)) ≡ map sendNumbers (sendsOf (report stepOf (setIn other) u))
 
--- And no fewer bytes will do: there is a text that the reader accepts, and a slot of its run, in which a call with less room is refused with 10.
+-- And no fewer bytes will do: there is a text that the reader accepts and both tests admit, and a slot of its run in which a call with less room is
+-- refused with 10.
 pub record NoFewer : Type 0 where
   pub text : List ℕ
   pub read : good (readText text .fault .refusal) ≡ true
+  pub admitted : (verdictForC text .basic ≡ 1) × (verdictForC text .tightened ≡ 1)
   pub slot : ℕ
   pub before-last : slot < lastSlot
   pub refused : (room : ℕ) → room < linesLength → slotForC text (stateBytes (runOf (setIn text) slot .last)) room .refusal ≡ 10
