@@ -1,6 +1,7 @@
 pub mod AllBounds
 pub mod AcceptedFlows
-pub mod RouteMarks
+pub mod RoutePlaces
+pub mod RouteLists
 pub mod PairGrids
 pub mod ShareRows
 pub mod DelayTables
@@ -9,9 +10,3 @@ pub mod OneRound
 pub mod RoundsReached
 pub mod VerdictAnswers
 pub mod BoundsReached
-pub mod IndexMet
-pub mod IndexColumns
-pub mod Index
-pub mod IndexCounts
-pub mod IndexLinks
-pub mod IndexPlaces

@@ -117,6 +117,10 @@ rows-next f n k t u h r d =
     fewer i l (inl q) = inl (omega arith)
     fewer i l (inr q) = inr q
 
+-- rows of another function that is the same there
+pub rows-ext : (f g : ℕ → ℕ → ℕ) (n k : ℕ) (t : List ℕ) → ((i l : ℕ) → i < k → l < n → f i l ≡ g i l) → RowsTo f n k t → RowsTo g n k t
+rows-ext f g n k t e r = record { whole = r .whole; row = λ i l j m. r .row i l j m ∙ e i l j m; none = r .none }
+
 pub filled-start : (f : ℕ → ℕ) → FilledTo f 0 (replicate mostFlows 0)
 filled-start f = record { whole = length-replicate {A = ℕ} mostFlows 0; entry = λ i l. absurd (omega arith); none = λ i l. zeros mostFlows i }
 

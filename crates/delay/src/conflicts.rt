@@ -1,48 +1,82 @@
-// S of document 01's delay tests for every pair of flows: a search of two routes where the flows are few, an index of nodes where they are
-// many. The marks of a route, one for each remainder of a node number, shorten the search.
+// S of document 01's delay tests for every pair of flows, by a search of the two routes. A table of a route's places, one for each kind of node,
+// says from where on a node can stand there: most nodes need no search, and the others a short one.
 ghost use mathlib.Core.Path.{_≡_};
-ghost use Prim.Native.Nat.{_%_, _*_, _<_, _≤_};
+ghost use mathlib.Core.List.{[]};
+ghost use Prim.Native.Nat.{_*_, _+_, _<_, _≤_};
 ghost use lib.ListN.{getD, length, take};
-ghost use mathlib.Core.Bool.{cond};
-ghost use lib.Dec.{eqb};
-ghost use Rattle.delay.specs.RouteMarks.{Marked, SearchFrom, endOn, endsOn};
+ghost use Rattle.delay.specs.RoutePlaces.{Places, endOn, endsOn, kindOf};
+ghost use Rattle.delay.specs.RouteLists.{Listed, ListedTo, listedWork};
 ghost use Rattle.delay.specs.PairGrids.{RowDone, RowsTo, conflictOf};
-ghost use Rattle.model.specs.Limits.{mostLinks, mostNodes};
+ghost use Rattle.model.specs.Limits.{mostFlows, mostLinks, mostNodes};
 ghost use Rattle.model.specs.Sets.{used};
+ghost use Rattle.model.specs.Sums.{bit};
 ghost use Rattle.laws.specs.Accepted.{Accepted};
-use crate::index::many;
 use model::Flow;
 use model::FlowSet;
 
-// From which place on a route of n nodes with these marks is to be searched for a node: from its end where the node is not marked.
-fn search_from(n: usize, m: &[u8; 256], node: u16) -> usize
-    ensures { λ r. ⌜ SearchFrom (now (m .entry)) n node r ⌝ }
-    ensures { λ r. ⌜ r ≡ cond (eqb (getD (now (m .entry)) (node % 256) 0) 0) n 0 ⌝ }
+// How many kinds of nodes the table of a route's places tells apart.
+const KINDS: usize = 512;
+
+// The routes of all flows.
+type Routes = [[u16; Flow::MOST_NODES]; Flow::MOST];
+
+// A 16-bit number as an index.
+fn wide(x: u16) -> usize
+    ensures { λ r. ⌜ (r ≡ x) × (r ≤ 65535) ⌝ }
 {
-    let at = (node % 256) as usize;
-    if m[at] == 0 {
-        return n;
-    }
-    0
+    x as usize
 }
 
-// Whether link i of the other route has an end on mine: one common node is enough, and the search of the two routes ends there.
+// A node's kind. The quotient is added so that nodes which are alike modulo 256 are not all of one kind.
+fn kind(node: u16) -> usize
+    ensures { λ r. ⌜ (r ≡ kindOf node) × (r < 512) ⌝ }
+{
+    let x = node as usize;
+    (x + x / KINDS) % KINDS
+}
+
+// From which place on a route with this table of places is to be searched for a node: beyond its end where no node of this kind is on it.
+fn search_from(places: &[u16; KINDS], node: u16) -> usize
+    ensures { λ r. ⌜ r ≡ getD (now (places .entry)) (kindOf node) 0 ⌝ }
+{
+    let at = kind(node);
+    wide(places[at])
+}
+
+// The table of the places of a route's first n nodes: for each kind of node the first place at which one stands.
+fn first_places(n: usize, route: &[u16; Flow::MOST_NODES]) -> [u16; KINDS]
+    requires { ⌜ n ≤ mostNodes ⌝ }
+    ensures { λ r. ⌜ Places r (now (route .entry)) 0 n ⌝ }
+{
+    let mut places = [Flow::MOST_NODES as u16; KINDS];
+    let mut from = n;
+    while 0 < from {
+        let j = from - 1;
+        let at = kind(route[j]);
+        places[at] = j as u16;
+        from = j;
+    }
+    places
+}
+
+// Whether link i of flow l has an end on my route: one common node is enough, and the search of the two routes ends there.
 fn link_touches(
     n: usize,
     mine: &[u16; Flow::MOST_NODES],
-    other: &[u16; Flow::MOST_NODES],
+    routes: &Routes,
+    l: usize,
     i: usize,
-    m: &[u8; 256],
+    places: &[u16; KINDS],
 ) -> bool
-    requires { ⌜ (n ≤ mostNodes) × (i < mostLinks) × (length (now mine) ≡ mostNodes) × Marked (now m) (now mine) n ⌝ }
-    ensures { λ r. ⌜ r ≡ endOn (now (other .entry)) (take n (now (mine .entry))) i ⌝ }
+    requires { ⌜ (n ≤ mostNodes) × (l < mostFlows) × (i < mostLinks) × (length (now mine) ≡ mostNodes) × Places (now places) (now mine) 0 n ⌝ }
+    ensures { λ r. ⌜ r ≡ endOn (getD (now (routes .entry)) l []) (take n (now (mine .entry))) i ⌝ }
 {
     let mut found = false;
     let mut e: usize = 0;
     'ends: while e < 2 {
         let at = i + e;
-        let node = other[at];
-        let mut j = search_from(n, m, node);
+        let node = routes[l][at];
+        let mut j = search_from(places, node);
         while j < n {
             if node == mine[j] {
                 found = true;
@@ -55,39 +89,53 @@ fn link_touches(
     found
 }
 
-// How many of the other route's links have an end on mine.
+// 1 where link i of flow l has an end on my route, else 0. Its ends can stand there from the places a and b on; where both are beyond my route
+// nothing is searched.
+fn link_counts(
+    n: usize,
+    mine: &[u16; Flow::MOST_NODES],
+    routes: &Routes,
+    l: usize,
+    i: usize,
+    places: &[u16; KINDS],
+    a: usize,
+    b: usize,
+) -> u16
+    requires { ⌜ (n ≤ mostNodes) × (l < mostFlows) × (i < mostLinks) × (length (now mine) ≡ mostNodes) × Places (now places) (now mine) 0 n ⌝ }
+    requires { ⌜ a ≡ getD (now places) (kindOf (getD (getD (now routes) l []) i 0)) 0 ⌝ }
+    requires { ⌜ b ≡ getD (now places) (kindOf (getD (getD (now routes) l []) (i + 1) 0)) 0 ⌝ }
+    ensures { λ r. ⌜ (r ≡ bit (endOn (getD (now (routes .entry)) l []) (take n (now (mine .entry))) i)) × (r ≤ 1) ⌝ }
+{
+    if n <= a {
+        if n <= b {
+            return 0;
+        }
+    }
+    model::bit(link_touches(n, mine, routes, l, i, places)) as u16
+}
+
+// How many of flow l's links have an end on my route. Each of its nodes is looked up once, though it is an end of two links.
 fn links_touched(
     n: usize,
     mine: &[u16; Flow::MOST_NODES],
     links: usize,
-    other: &[u16; Flow::MOST_NODES],
-    m: &[u8; 256],
+    routes: &Routes,
+    l: usize,
+    places: &[u16; KINDS],
 ) -> u16
-    requires { ⌜ (n ≤ mostNodes) × (links ≤ mostLinks) × (length (now mine) ≡ mostNodes) × Marked (now m) (now mine) n ⌝ }
-    ensures { λ r. ⌜ (r ≡ endsOn (now (other .entry)) (take n (now (mine .entry))) links) × (r ≤ mostLinks) ⌝ }
+    requires { ⌜ (n ≤ mostNodes) × (l < mostFlows) × (links ≤ mostLinks) × (length (now mine) ≡ mostNodes) × Places (now places) (now mine) 0 n ⌝ }
+    ensures { λ r. ⌜ (r ≡ endsOn (getD (now (routes .entry)) l []) (take n (now (mine .entry))) links) × (r ≤ mostLinks) ⌝ }
 {
     let mut touched: u16 = 0;
+    let mut a = search_from(places, routes[l][0]);
     let mut i: usize = 0;
     while i < links {
-        touched += model::bit(link_touches(n, mine, other, i, m)) as u16;
+        let b = search_from(places, routes[l][i + 1]);
+        touched += link_counts(n, mine, routes, l, i, places, a, b);
+        a = b;
         i += 1;
     }
     touched
-}
-
-// Which remainders modulo 256 the first n nodes of a route have. A node whose remainder is not marked is none of them.
-fn marks(n: usize, route: &[u16; Flow::MOST_NODES]) -> [u8; 256]
-    requires { ⌜ n ≤ mostNodes ⌝ }
-    ensures { λ r. ⌜ Marked r (now (route .entry)) n ⌝ }
-{
-    let mut m = [0u8; 256];
-    let mut j: usize = 0;
-    while j < n {
-        let at = (route[j] % 256) as usize;
-        m[at] = 1;
-        j += 1;
-    }
-    m
 }
 
 // κ times a number of links.
@@ -98,6 +146,47 @@ fn times(tries: u16, count: u16) -> u16
     tries * count
 }
 
+// S of flow k and every flow, in row k.
+fn conflict_row(
+    n: usize,
+    k: usize,
+    routes: &Routes,
+    links: &[u16; Flow::MOST],
+    tries: &[u16; Flow::MOST],
+    t: &mut [u16; PAIRS],
+)
+    requires { ⌜ (k < n) × (length (now t) ≡ 4096) × Listed n (now routes) (now links) (now tries) ⌝ }
+    ensures { λ r. ⌜ RowDone (listedWork (now (routes .entry)) (now (links .entry)) (now (tries .entry)) k) n k (now (t .entry)) (now (t .exit)) ⌝ }
+{
+    let mine = routes[k];
+    let nodes = wide(links[k]) + 1;
+    let places = first_places(nodes, &mine);
+    let mut l: usize = 0;
+    while l < n {
+        let touched = links_touched(nodes, &mine, wide(links[l]), routes, l, &places);
+        t[k * Flow::MOST + l] = times(tries[l], touched);
+        l += 1;
+    }
+}
+
+// S of the first n flows, in as many rows.
+fn conflict_rows(
+    n: usize,
+    routes: &Routes,
+    links: &[u16; Flow::MOST],
+    tries: &[u16; Flow::MOST],
+    t: &mut [u16; PAIRS],
+)
+    requires { ⌜ Listed n (now routes) (now links) (now tries) × RowsTo (listedWork (now routes) (now links) (now tries)) n 0 (now t) ⌝ }
+    ensures { λ r. ⌜ RowsTo (listedWork (now (routes .entry)) (now (links .entry)) (now (tries .entry))) n n (now (t .exit)) ⌝ }
+{
+    let mut k: usize = 0;
+    while k < n {
+        conflict_row(n, k, routes, links, tries, t);
+        k += 1;
+    }
+}
+
 // A flow's route, with the length that its array has.
 fn route(f: Flow) -> [u16; Flow::MOST_NODES]
     ensures { λ r. ⌜ (r ≡ f .route) × (length r ≡ mostNodes) ⌝ }
@@ -105,53 +194,37 @@ fn route(f: Flow) -> [u16; Flow::MOST_NODES]
     f.route
 }
 
-// S of flow k and every flow, in row k.
-fn conflict_row(s: FlowSet, k: usize, t: &mut [u16; PAIRS])
-    requires { ⌜ Accepted (used s) ⌝ }
-    requires { ⌜ (k < s .count) × (length (now t) ≡ 4096) ⌝ }
-    ensures { λ r. ⌜ RowDone (conflictOf (used s) k) (s .count) k (now (t .entry)) (now (t .exit)) ⌝ }
-{
-    let me = s.flows[k];
-    let mine = route(me);
-    let nodes = me.nodes as usize;
-    let m = marks(nodes, &mine);
-    let n = s.count as usize;
-    let mut l: usize = 0;
-    while l < n {
-        let f = s.flows[l];
-        let other = route(f);
-        let links = f.links() as usize;
-        t[k * Flow::MOST + l] = times(f.tries, links_touched(nodes, &mine, links, &other, &m));
-        l += 1;
-    }
-}
-
-// S of every pair of flows, by a search of the two routes.
-fn conflict_work_by_search(s: FlowSet, t: &mut [u16; PAIRS])
-    requires { ⌜ Accepted (used s) × RowsTo (conflictOf (used s)) (s .count) 0 (now t) ⌝ }
-    ensures { λ r. ⌜ RowsTo (conflictOf (used s)) (s .count) (s .count) (now (t .exit)) ⌝ }
+// Routes, links and tries of every flow, so that the set is not handed on for each row.
+fn list_routes(
+    s: FlowSet,
+    routes: &mut Routes,
+    links: &mut [u16; Flow::MOST],
+    tries: &mut [u16; Flow::MOST],
+)
+    requires { ⌜ Accepted (used s) × ListedTo s 0 (now routes) (now links) (now tries) ⌝ }
+    ensures { λ r. ⌜ ListedTo s (s .count) (now (routes .exit)) (now (links .exit)) (now (tries .exit)) ⌝ }
 {
     let n = s.count as usize;
     let mut k: usize = 0;
     while k < n {
-        conflict_row(s, k, t);
+        let f = s.flows[k];
+        routes[k] = route(f);
+        links[k] = f.links() as u16;
+        tries[k] = f.tries;
         k += 1;
     }
 }
 
-// From how many flows on the index is quicker than the search.
-const MANY: u16 = 10;
-
-// S of every pair of flows. Both ways give the same numbers; which one is quicker depends on the number of flows.
+// S of every pair of flows.
 pub fn conflict_work_of_all(s: FlowSet, t: &mut [u16; PAIRS])
     requires { ⌜ Accepted (used s) × RowsTo (conflictOf (used s)) (s .count) 0 (now t) ⌝ }
     ensures { λ r. ⌜ RowsTo (conflictOf (used s)) (s .count) (s .count) (now (t .exit)) ⌝ }
 {
-    if s.count < MANY {
-        conflict_work_by_search(s, t);
-    } else {
-        many(s, t);
-    }
+    let mut routes = [[0u16; Flow::MOST_NODES]; Flow::MOST];
+    let mut links = [0u16; Flow::MOST];
+    let mut tries = [0u16; Flow::MOST];
+    list_routes(s, &mut routes, &mut links, &mut tries);
+    conflict_rows(s.count as usize, &routes, &links, &tries, t);
 }
 
 // How many pairs of flows a set can have: row k, column l of a grid is at k times the most flows, plus l.

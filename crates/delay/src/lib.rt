@@ -17,7 +17,6 @@ ghost use Rattle.document.specs.Delay.{boundsOf, verdictOf};
 
 mod conflicts;
 mod equation;
-mod index;
 mod rounds;
 mod shares;
 mod verdicts;

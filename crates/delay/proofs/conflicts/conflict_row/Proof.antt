@@ -1,72 +1,68 @@
 -- `conflict_row`: the row's first l places hold S, and all else is as it was. Assumes nothing beyond its `requires`.
-use mathlib.Core.Path.{_≡_, sym, ap₂, _∙_}
-use Prim.Native.Nat.{_-_, _≤_}
+use mathlib.Core.Path.{_≡_, ap, _∙_}
+use Prim.Native.Nat.{ℕ, _*_, _-_, _≤_, _<_}
+use lib.ListN.{getD}
 use native.Mathlib.Omega.{arith}
-use lib.ListN.{length}
-use Rattle.model.specs.Sets.{flowAt, used, links}
-use Rattle.document.specs.Delay.{conflictWork}
-use Rattle.laws.specs.Used.{used-flow}
-use Rattle.delay.specs.PairGrids.{RowDone, conflictOf, row-start, row-next}
-use Rattle.delay.specs.AcceptedFlows.{good-at, count-at}
-use Rattle.delay.specs.RouteMarks.{work-ends}
-use borrow.Author.Needs.{needs}
+use Rattle.delay.specs.PairGrids.{RowDone, row-start, row-next}
+use Rattle.delay.specs.RouteLists.{listedWork}
 use Rattle.model.specs.Limits.{mostFlows}
+use borrow.Author.Needs.{needs}
 use Rattle.delay.proofs.conflicts.conflict_row.Statement.{statement}
 use Rattle.delay.proofs.conflicts.conflict_row.Tie as tie
 
 abbrev Inv-loop : tie.InvT-loop
-Inv-loop k t₀ s mine nodes m n l₀ t l = (l ≤ n) × (n ≤ mostFlows) × RowDone (conflictOf (used s) k) l k t₀ t
+Inv-loop n k routes links tries t₀ mine nodes places l₀ t l = (l ≤ n) × (n ≤ mostFlows) × RowDone (listedWork routes links tries k) l k t₀ t
 
 abbrev μ-loop : tie.MeasureT-loop
-μ-loop k t₀ s mine nodes m n l₀ t l = n - l
+μ-loop n k routes links tries t₀ mine nodes places l₀ t l = n - l
 
-element-copy-out-me : tie.Need-element-copy-out-me Inv-loop μ-loop
-element-copy-out-me c = omega (arith, count-at (c .args .t1) (c .pre .0))
-
-marks-requires : tie.Need-marks-requires Inv-loop μ-loop
-marks-requires c κs =
+first-places-requires : tie.Need-first-places-requires Inv-loop μ-loop
+first-places-requires c κs =
     let b = c .before .before .before .before in
-    good-at (b .args .t1) (b .pre .0) (b .args .k) (b .pre .1 .0) .nodes-le
+    omega (arith, c .before .wide .ensures .0, b .pre .2 .links-le (b .args .k) (b .pre .0))
 
 loop-holds : tie.Need-loop-holds Inv-loop μ-loop
 loop-holds c =
-    let b = c .before .before .before .before .before in
-    (search needs, count-at (b .args .t1) (b .pre .0), row-start _ _ _ (b .pre .1 .1))
+    let p = c .before .before .before .before .before .pre in
+    (search needs, p .2 .few, row-start _ _ _ (p .1))
 
 links-touched-requires : tie.Need-links-touched-requires Inv-loop μ-loop
 links-touched-requires c κs =
-    let w = c .before .before .before .before .before .before .before in
-    let b = w .before .before .before .before .before .before in
-    let mine = good-at (b .args .t1) (b .pre .0) (b .args .k) (b .pre .1 .0) in
-    let other = good-at (b .args .t1) (b .pre .0) (w .loop .l) (c .before .before .before .before .before .before .loop-test .taken) in
-    let n = other .nodes-le in
-    (mine .nodes-le, omega (arith, c .before .before .before .links .ensures .0), w .before .before .before .before .route .ensures .1, w .before .marks .ensures)
+    let w = c .before .before .before .before .before in
+    let f = w .before in
+    let b = f .before .before .before .before .before in
+    let h : w .loop .l < b .args .n = search needs in
+    let o = b .pre .2 in (
+      omega (arith, f .before .before .wide .ensures .0, o .links-le (b .args .k) (b .pre .0)),
+      omega (arith, o .few),
+      omega (arith, c .before .wide2 .ensures .0, o .links-le (w .loop .l) h),
+      o .long (b .args .k) (b .pre .0),
+      f .first-places .ensures,
+    )
 
 times-requires : tie.Need-times-requires Inv-loop μ-loop
 times-requires c κs =
-    let w = c .before .before .before .before .before .before .before .before in
+    let t = c .before in
+    let w = t .before .before .before .before .before .before in
     let b = w .before .before .before .before .before .before in
-    let other = good-at (b .args .t1) (b .pre .0) (w .loop .l) (c .before .before .before .before .before .before .before .loop-test .taken) in
-    (other .tries-le, c .links-touched .ensures .1)
+    let h : w .loop .l < b .args .n = search needs in
+    (b .pre .2 .tries-le (w .loop .l) h, t .links-touched .ensures .1)
 
 loop-again : tie.Need-loop-again Inv-loop μ-loop
 loop-again c =
-    let w = c .before .before .before .before .before .before .before .before .before in
+    let t = c .before .before in
+    let w = t .before .before .before .before .before .before in
     let b = w .before .before .before .before .before .before in
-    let s = b .args .t1 in
-    let h = c .before .before .before .before .before .before .before .before .loop-test .taken in
-    let n = good-at s (b .pre .0) (w .loop .l) h .nodes-le in
-    let r = c .before .before .before .before .before .before .route2 .ensures in
-    let e = ap₂ conflictWork (used-flow s (b .args .k) (b .pre .1 .0)) (used-flow s (w .loop .l) h) in
-    let f : flowAt s (w .loop .l) .nodes ≤ length (flowAt s (w .loop .l) .route) = rw (← r .0) (omega (arith, n, r .1)) in
-    let x = work-ends (flowAt s (b .args .k)) (flowAt s (w .loop .l)) f _
-    (rw (r .0, w .before .before .before .before .route .ensures .0, c .before .before .before .before .before .links .ensures .0) at (c .before .links-touched .ensures .0)) in
-    (search needs, search needs, row-next _ (w .loop .l) (b .args .k) _ _ _ (omega arith) (omega arith) (w .loop .inv .2) (c .times .ensures ∙ x ∙ sym e))
+    let k = w .before .before .before .wide .ensures .0 in
+    let l = t .before .before .wide2 .ensures .0 in
+    let s = ap (λ (x : ℕ). getD (b .args .tries .now) (w .loop .l) 0 * x) (rw (l, k) at (t .links-touched .ensures .0)) in
+    (search needs, search needs, row-next _ (w .loop .l) (b .args .k) _ _ _ (omega arith) (omega arith) (w .loop .inv .2) (c .times .ensures ∙ s))
 
 returns : tie.Need-returns Inv-loop μ-loop
 returns c =
-    let e : c .before .loop .l ≡ c .before .before .before .before .before .before .before .args .t1 .count = omega arith in
-    rw e at (c .before .loop .inv .2)
+    let w = c .before in
+    let e : w .loop .l ≡ w .before .before .before .before .before .before .args .n = omega arith in
+    rw e at (w .loop .inv .2)
 
 pub conflict-row-spec : {M : Type 1} → statement M
 conflict-row-spec =
@@ -75,18 +71,19 @@ conflict-row-spec =
     Inv-loop
     μ-loop
     (λ c. search needs)
-    element-copy-out-me
+    (λ c. search needs)
+    (λ c. search needs)
+    (λ c. search needs)
     (λ c κs. search needs)
     (λ c. search needs)
-    marks-requires
-    (λ c. search needs)
+    first-places-requires
     loop-holds
     (λ c. search needs)
     (λ c. search needs)
     (λ c κs. search needs)
-    (λ c κs. search needs)
-    (λ c. search needs)
     links-touched-requires
+    (λ c. search needs)
+    (λ c. search needs)
     times-requires
     (λ c. search needs)
     (λ c. search needs)

@@ -1,29 +1,31 @@
 -- `link_touches`: none of the ends so far is on the route, and the first that is decides. Assumes nothing beyond its `requires`.
-use mathlib.Core.Path.{_≡_, refl, sym, _∙_}
-use mathlib.Core.Bool.{false}
-use Prim.Native.Nat.{_+_, _-_, _≤_}
+use mathlib.Core.Path.{_≡_, refl, sym, ap, _∙_}
+use mathlib.Core.Bool.{Bool, false}
+use mathlib.Core.List.{[]}
+use Prim.Native.Nat.{ℕ, _+_, _-_, _≤_}
 use native.Mathlib.Omega.{arith}
 use lib.ListN.{length, getD, take, drop}
 use Rattle.model.specs.Sums.{anyTo}
 use Rattle.model.specs.Sets.{memb}
 use Rattle.laws.specs.SumLaws.{any-zero, any-next, any-in}
 use Rattle.laws.specs.Nodes.{memb-here, memb-on, memb-end}
+use Rattle.delay.specs.RoutePlaces.{places-search}
 use borrow.Author.Needs.{needs}
 use Rattle.delay.proofs.conflicts.link_touches.Statement.{statement}
 use Rattle.delay.proofs.conflicts.link_touches.Tie as tie
 
 abbrev Inv-loop : tie.InvT-loop
-Inv-loop n mine other i m found₀ e at node j₀ found j = (found ≡ false) × (memb node (take n mine) ≡ memb node (drop j (take n mine)))
+Inv-loop n mine routes l i places found₀ e at node j₀ found j = (found ≡ false) × (memb node (take n mine) ≡ memb node (drop j (take n mine)))
 
 abbrev μ-loop : tie.MeasureT-loop
-μ-loop n mine other i m found₀ e at node j₀ found j = n - j
+μ-loop n mine routes l i places found₀ e at node j₀ found j = n - j
 
 abbrev Inv-ends : tie.InvT-ends
-Inv-ends n mine other i m found₀ e₀ found e =
-    (found ≡ false) × (e ≤ 2) × (n ≤ length mine) × (anyTo (λ x. memb (getD other (i + x) 0) (take n mine)) e ≡ false)
+Inv-ends n mine routes l i places found₀ e₀ found e =
+    (found ≡ false) × (e ≤ 2) × (n ≤ length mine) × (anyTo (λ x. memb (getD (getD routes l []) (i + x) 0) (take n mine)) e ≡ false)
 
 abbrev μ-ends : tie.MeasureT-ends
-μ-ends n mine other i m found₀ e₀ found e = 2 - e
+μ-ends n mine routes l i places found₀ e₀ found e = 2 - e
 
 ends-holds : tie.Need-ends-holds Inv-loop μ-loop Inv-ends μ-ends
 ends-holds c = (refl, search needs, omega arith, any-zero _)
@@ -31,7 +33,11 @@ ends-holds c = (refl, search needs, omega arith, any-zero _)
 loop-holds : tie.Need-loop-holds Inv-loop μ-loop Inv-ends μ-ends
 loop-holds c =
     let b = c .before .before .before .before in
-    (c .before .before .before .ends .inv .0, sym (c .search-from .ensures .0 (b .args .mine .now) (b .pre .3)))
+    let a = b .args in
+    let s = c .before .before .before .ends in
+    let x = getD (getD (a .routes .now) (a .l) []) (a .i + s .e) 0 in
+    let f = ap (λ (j : ℕ). memb x (drop j (take (a .n) (a .mine .now)))) (c .search-from .ensures) in
+    (s .inv .0, sym (f ∙ places-search (a .places .now) (a .mine .now) (a .n) x (b .pre .4)))
 
 loop-again : tie.Need-loop-again Inv-loop μ-loop Inv-ends μ-ends
 loop-again c =
@@ -76,6 +82,8 @@ link-touches-spec =
     Inv-ends
     μ-ends
     ends-holds
+    (λ c. search needs)
+    (λ c. search needs)
     (λ c. search needs)
     (λ c. search needs)
     (λ c. search needs)
