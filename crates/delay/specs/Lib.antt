@@ -10,3 +10,4 @@ pub mod OneRound
 pub mod RoundsReached
 pub mod VerdictAnswers
 pub mod BoundsReached
+pub mod GreatestAnswers

@@ -13,7 +13,7 @@ ghost use Rattle.laws.specs.Accepted.{Accepted};
 ghost use mathlib.Core.Bool.{true};
 ghost use Rattle.model.specs.Refusals.{good};
 ghost use Rattle.document.specs.Reader.{recordFault};
-ghost use Rattle.document.specs.Delay.{boundsOf, verdictOf};
+ghost use Rattle.document.specs.Delay.{AtGreatest, admits, boundsOf, mostRounds, valueAt, verdictOf};
 
 mod conflicts;
 mod equation;
@@ -163,17 +163,21 @@ pub fn all_bounds(s: FlowSet) -> AllBounds
     bounds_of_accepted(s)
 }
 
-// The verdicts of both tests and the number of rounds.
+// The verdicts of both tests and the number of rounds. The tightened test is judged by the equation's value at the greatest list, and the
+// rounds are at most 1 + Σ(D − C).
 pub fn verdict(s: FlowSet) -> Verdict
-    ensures { λ r. ⌜ r ≡ verdictOf (used s) ⌝ }
+    ensures answer { λ r. ⌜ r ≡ verdictOf (used s) ⌝ }
+    ensures greatest { λ r. ⌜ (good (r .fault .refusal) ≡ true → AtGreatest (used s) (λ v. r .tightened ≡ admits (used s) (valueAt (used s) v))) ⌝ }
+    ensures rounds { λ r. ⌜ r .rounds ≤ mostRounds (used s) ⌝ }
 {
     let all = all_bounds(s);
     verdicts::verdict_of(s, all)
 }
 
-// C, both bounds, deadline and margin of one flow.
+// C, both bounds, deadline and margin of one flow. The tightened bound is the equation's value at the greatest list.
 pub fn bounds(s: FlowSet, k: u16) -> Bounds
-    ensures { λ r. ⌜ r ≡ boundsOf (used s) k ⌝ }
+    ensures answer { λ r. ⌜ r ≡ boundsOf (used s) k ⌝ }
+    ensures greatest { λ r. ⌜ (good (r .fault .refusal) ≡ true → AtGreatest (used s) (λ v. r .tightened ≡ valueAt (used s) v k)) ⌝ }
 {
     let all = all_bounds(s);
     verdicts::bounds_of(s, k, all)

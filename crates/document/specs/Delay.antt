@@ -89,6 +89,10 @@ pub record Greatest (s : FlowSet) (v : List ℕ) : Type 0 where
   pub settled : Settled s v
   pub largest : (g : List ℕ) → Settled s g → (k : ℕ) → getD g k 0 ≤ getD v k 0
 
+-- something holds of the greatest list
+abbrev pub AtGreatest : FlowSet → (List ℕ → Type 0) → Type 0
+AtGreatest s p = (v : List ℕ) × Greatest s v × p v
+
 -- Rounds: start with v = D
 unfoldable pub deadlines : FlowSet → List ℕ
 deadlines s = listTo (deadline s) (s .count)

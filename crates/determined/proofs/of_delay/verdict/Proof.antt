@@ -5,7 +5,7 @@ use Rattle.determined.proofs.of_delay.verdict.Statement.{statement}
 use Rattle.determined.proofs.of_delay.verdict.Tie as tie
 
 returns : tie.Need-returns
-returns c = c .before .verdict .ensures ∙ sym (c .verdict2 .ensures)
+returns c = c .before .verdict .ensures .0 ∙ sym (c .verdict2 .ensures .0)
 
 pub verdict-spec : {M : Type 1} → statement M
 verdict-spec = tie.close (tie.spec (λ c κs. tt) (λ c κs. tt) returns)

@@ -18,7 +18,7 @@ unfolding boundsOfReading
 returns-2 c =
     let a = c .before .before .before .before .before .before .args in
     rw (accepts (a .reading .fault) (c .before .before .before .before .refuses .ensures) (c .before .before .before .if1 .left))
-    (c .bounds .ensures ∙ ap (boundsOf (used (a .reading .set))) (c .before .flow-number .ensures) ∙ bounds-cut (a .reading .set) (a .flow))
+    (c .bounds .ensures .0 ∙ ap (boundsOf (used (a .reading .set))) (c .before .flow-number .ensures) ∙ bounds-cut (a .reading .set) (a .flow))
 
 pub bounds-of-reading-spec : {M : Type 1} → statement M
 bounds-of-reading-spec =

@@ -11,7 +11,7 @@ returns c = rw (refuses (c .before .before .before .before .args .reading .fault
 
 returns-2 : tie.Need-returns-2
 unfolding verdictOfReading
-returns-2 c = rw (accepts (c .before .before .before .before .before .args .reading .fault) (c .before .before .before .refuses .ensures) (c .before .before .if1 .left)) (c .verdict .ensures)
+returns-2 c = rw (accepts (c .before .before .before .before .before .args .reading .fault) (c .before .before .before .refuses .ensures) (c .before .before .if1 .left)) (c .verdict .ensures .0)
 
 pub verdict-of-reading-spec : {M : Type 1} → statement M
 verdict-of-reading-spec =
