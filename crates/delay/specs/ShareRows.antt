@@ -13,6 +13,7 @@ use native.Mathlib.Omega.{arith}
 use lib.Seq.{getD-set-same, getD-set-other}
 use mathlib.Core.Bool.{Bool, cond}
 use mathlib.Core.Logic.{_⊎_, inl, inr, _≢_}
+use lib.Dec.{eqb}
 use native.Mathlib.Nat.{zero-mul}
 use borrow.Author.Tests.{eq-eqb, ne-eqb}
 use Rattle.laws.specs.SumLaws.{sum-ext, sum-cut}
@@ -66,6 +67,10 @@ pub record SharesTo (n k : ℕ) (p d c w t x y : List ℕ) : Type 0 where
   pub conflicts : FilledTo (λ i. packetSum (getD d i 0) p n i (λ l. pairAt c i l)) k x
   pub works : FilledTo (λ i. packetSum (getD d i 0) p n i (λ l. getD w l 0)) k y
   pub works-le : (i : ℕ) → i < k → packetSum (getD d i 0) p n i (λ l. getD w l 0) ≤ 268431360
+
+-- what a test for no period leaves where there is one
+pub of-period : (p r x y : ℕ) → 0 < p → r ≡ cond (eqb p 0) x y → r ≡ y
+of-period p r x y h e = e ∙ ap (λ (b : Bool). cond b x y) (ne-eqb p 0 (λ z. omega arith))
 
 -- the numbers of one flow more
 pub flow-numbers-start : (s : FlowSet) → FlowNumbersTo s 0 (replicate mostFlows 0) (replicate mostFlows 0) (replicate mostFlows 0)

@@ -6,6 +6,8 @@ ghost use Rattle.laws.specs.Accepted.{Accepted};
 ghost use Rattle.delay.specs.ShareRows.{Positive, SharesTo, SmallWorks, remaindersBy, Divided, FlowNumbersTo, ZeroFrom, SmallWork, packetSum};
 ghost use Rattle.delay.specs.PairGrids.{RowDone, ofOther, pairAt};
 ghost use mathlib.Core.Path.{_≡_};
+ghost use mathlib.Core.Bool.{cond};
+ghost use lib.Dec.{eqb};
 ghost use lib.ListN.{getD, length};
 ghost use Rattle.model.specs.Limits.{mostFlows};
 ghost use Rattle.model.specs.Sums.{sumTo};
@@ -43,7 +45,7 @@ fn divide(
     q: &mut [u16; Flow::MOST],
     remainder: &mut [u16; conflicts::PAIRS],
 )
-    requires { ⌜ (k < n) × (n ≤ mostFlows) × (0 < deadline) × ((l : ℕ) → l < n → 0 < getD (now period) l 0) ⌝ }
+    requires { ⌜ (k < n) × (n ≤ mostFlows) × ((l : ℕ) → l < n → 0 < getD (now period) l 0) ⌝ }
     requires { ⌜ (length (now q) ≡ mostFlows) × (length (now remainder) ≡ 4096) ⌝ }
     ensures { λ r. ⌜ Divided k n deadline (now (period .entry)) (now (q .entry)) (now (q .exit)) (now (remainder .entry)) (now (remainder .exit)) ⌝ }
 {
@@ -79,24 +81,28 @@ pub fn least(a: u16, b: u16) -> u16
     if a < b { a } else { b }
 }
 
-// q: how many whole periods a deadline has.
+// q: how many whole periods a deadline has; none where there is no period.
 fn quotient(deadline: u16, period: u16) -> u16
-    requires { ⌜ (0 < deadline) × (0 < period) ⌝ }
-    ensures { λ r. ⌜ r ≡ deadline / period ⌝ }
+    ensures { λ r. ⌜ r ≡ cond (eqb period 0) 0 (deadline / period) ⌝ }
 {
+    if period == 0 {
+        return 0;
+    }
     deadline / period
 }
 
-// r: what is left of a deadline after its whole periods.
+// r: what is left of a deadline after its whole periods; all of it where there is no period.
 fn left_over(deadline: u16, period: u16) -> u16
-    requires { ⌜ (0 < deadline) × (0 < period) ⌝ }
-    ensures { λ r. ⌜ r ≡ deadline % period ⌝ }
+    ensures { λ r. ⌜ r ≡ cond (eqb period 0) deadline (deadline % period) ⌝ }
 {
+    if period == 0 {
+        return deadline;
+    }
     deadline % period
 }
 
-// q·S or q·C: the work of q packets.
-fn times(q: u16, count: u16) -> u32
+// κ times a number of links, or the work of q packets: q·S or q·C.
+pub fn times(q: u16, count: u16) -> u32
     requires { ⌜ (q ≤ 65535) × (count ≤ 64) ⌝ }
     ensures { λ r. ⌜ (r ≡ q * count) × (r ≤ 4194240) ⌝ }
 {
@@ -146,9 +152,10 @@ fn shares_of_flow<'a>(
     q: &mut [u16; Flow::MOST],
     remainder: &mut [u16; conflicts::PAIRS],
 ) -> PacketSums
-    requires { ⌜ (k < n) × (n ≤ mostFlows) × (0 < deadline) × ((l : ℕ) → l < n → 0 < getD (now period) l 0) ⌝ }
+    requires { ⌜ (k < n) × (n ≤ mostFlows) × ((l : ℕ) → l < n → 0 < getD (now period) l 0) ⌝ }
     requires { ⌜ SmallWork (now conflict) (now work) k × ZeroFrom n (now q) × (length (now remainder) ≡ 4096) ⌝ }
-    ensures { λ r. ⌜ ZeroFrom n (now (q .exit)) × RowDone (remaindersBy deadline (now (period .entry)) k) n k (now (remainder .entry)) (now (remainder .exit)) ⌝ }
+    ensures { λ r. ⌜ ZeroFrom n (now (q .exit))
+        × RowDone (remaindersBy deadline (now (period .entry)) k) n k (now (remainder .entry)) (now (remainder .exit)) ⌝ }
     ensures { λ r. ⌜ r .conflict ≡ packetSum deadline (now (period .entry)) n k (λ l. pairAt (now (conflict .entry)) k l) ⌝ }
     ensures { λ r. ⌜ (r .work ≡ packetSum deadline (now (period .entry)) n k (λ l. getD (now (work .entry)) l 0)) × (r .work ≤ 268431360) ⌝ }
 {

@@ -1,6 +1,6 @@
 // The verdicts of both delay tests, and one flow's bounds, from the bounds of all flows.
 ghost use mathlib.Core.Path.{_≡_};
-ghost use Prim.Native.Nat.{_-_, _<_, _≤_};
+ghost use Prim.Native.Nat.{_<_, _≤_, min};
 ghost use lib.IntN.{_-ℤ_, pos};
 ghost use mathlib.Core.Bool.{_&&_, true};
 ghost use lib.ListN.{getD};
@@ -18,12 +18,19 @@ use model::Refusal;
 use model::Span;
 use model::Verdict;
 
-// Deadline less tightened bound, signed.
-fn margin(deadline: u16, bound: u32) -> i32
-    requires { ⌜ bound ≤ 272691135 ⌝ }
-    ensures { λ r. ⌜ r ≡ pos deadline -ℤ pos bound ⌝ }
+// The smaller of a number and the largest signed one.
+fn signed_most(x: u32) -> u32
+    ensures { λ r. ⌜ (r ≡ min x 2147483647) × (r ≤ 2147483647) ⌝ }
 {
-    (deadline as i32) - (bound as i32)
+    if x < 2147483647 { x } else { 2147483647 }
+}
+
+// Deadline less tightened bound, signed. A bound above the largest signed number, which no set has, counts as that number.
+fn margin(deadline: u16, bound: u32) -> i32
+    ensures { λ r. ⌜ r ≡ pos deadline -ℤ pos (min bound 2147483647) ⌝ }
+{
+    let b = signed_most(bound);
+    (deadline as i32) - (b as i32)
 }
 
 // Both bounds of every flow and the number of rounds, 0 beyond the last flow.

@@ -2,7 +2,7 @@
 use mathlib.Core.Path.{_≡_}
 use Prim.Native.Nat.{_-_, _≤_}
 use native.Mathlib.Omega.{arith}
-use Rattle.delay.specs.ShareRows.{Divided, divided-start, divided-next}
+use Rattle.delay.specs.ShareRows.{Divided, divided-start, divided-next, of-period}
 use borrow.Author.Needs.{needs}
 use Rattle.delay.proofs.shares.divide.Statement.{statement}
 use Rattle.delay.proofs.shares.divide.Tie as tie
@@ -16,21 +16,14 @@ abbrev μ-loop : tie.MeasureT-loop
 loop-holds : tie.Need-loop-holds Inv-loop μ-loop
 loop-holds c = (search needs, divided-start _ _ _ _ _ (c .pre .1 .0) (c .pre .1 .1))
 
-quotient-requires : tie.Need-quotient-requires Inv-loop μ-loop
-quotient-requires c κs =
-    let b = c .before .before .before in
-    (b .pre .0 .2, b .pre .0 .3 (c .before .before .loop .l) (c .before .loop-test .taken))
-
-left-over-requires : tie.Need-left-over-requires Inv-loop μ-loop
-left-over-requires c κs =
-    let b = c .before .before .before .before .before in
-    (b .pre .0 .2, b .pre .0 .3 (c .before .before .before .before .loop .l) (c .before .before .before .loop-test .taken))
-
 loop-again : tie.Need-loop-again Inv-loop μ-loop
 loop-again c =
     let b = c .before .before .before .before .before .before in
     let w = c .before .before .before .before .before .loop in
-    (search needs, divided-next (b .args .k) (w .l) (b .args .deadline) _ _ _ _ _ _ _ (omega arith) (omega arith) (w .inv .1) (c .before .before .quotient .ensures) (c .left-over .ensures))
+    let some = b .pre .0 .2 (w .l) (c .before .before .before .before .loop-test .taken) in
+    let q = of-period _ _ _ _ some (c .before .before .quotient .ensures) in
+    let r = of-period _ _ _ _ some (c .left-over .ensures) in
+    (search needs, divided-next (b .args .k) (w .l) (b .args .deadline) _ _ _ _ _ _ _ (omega arith) (omega arith) (w .inv .1) q r)
 
 returns : tie.Need-returns Inv-loop μ-loop
 returns c =
@@ -46,12 +39,12 @@ divide-spec =
     loop-holds
     (λ c. search needs)
     (λ c. search needs)
-    quotient-requires
+    (λ c κs. search needs)
     (λ c. search needs)
     (λ c. search needs)
     (λ c. search needs)
     (λ c. search needs)
-    left-over-requires
+    (λ c κs. search needs)
     (λ c. search needs)
     (λ c. search needs)
     (λ c. search needs)

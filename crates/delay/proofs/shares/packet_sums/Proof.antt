@@ -38,19 +38,21 @@ times-requires c κs =
 
 times-requires-2 : tie.Need-times-requires-2 Inv-loop μ-loop
 times-requires-2 c κs =
-    let b = c .before .before .before .before .before .before .before in
-    (c .before .before .before .bounded .ensures .1, b .pre .1 .works (c .before .before .before .before .before .before .loop .l) (c .before .before .before .before .before .loop-test .taken))
+    let t = c .before .before .before .before .before in
+    let b = t .before .before in
+    (c .before .before .before .bounded .ensures .1, b .pre .1 .works (t .before .loop .l) (t .loop-test .taken))
 
 loop-again : tie.Need-loop-again Inv-loop μ-loop
 loop-again c =
-    let b = c .before .before .before .before .before .before .before .before in
-    let w = c .before .before .before .before .before .before .before .loop in
+    let t = c .before .before .before .before .before .before in
+    let w = t .before .loop in
+    let a = t .before .before .args in
     let q = c .before .before .before .before .bounded .ensures .0 in
-    let a = b .args in (
+    let first = c .before .before .times .ensures .0 ∙ ap (λ (i : ℕ). i * pairAt (a .conflict .now) (a .k) (w .l)) q in (
       search needs,
       omega arith,
       omega arith,
-      ap₂ (λ (i j : ℕ). i + j) (w .inv .3) (c .before .before .times .ensures .0 ∙ ap (λ (i : ℕ). i * pairAt (a .conflict .now) (a .k) (w .l)) q) ∙ sym (sum-next _ (w .l)),
+      ap₂ (λ (i j : ℕ). i + j) (w .inv .3) first ∙ sym (sum-next _ (w .l)),
       ap₂ (λ (i j : ℕ). i + j) (w .inv .4) (c .times2 .ensures .0 ∙ ap (λ (i : ℕ). i * getD (a .work .now) (w .l) 0) q) ∙ sym (sum-next _ (w .l)),
     )
 

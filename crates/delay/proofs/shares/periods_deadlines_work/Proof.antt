@@ -38,7 +38,8 @@ loop-again c =
     let d = c .before .bounded .ensures in (
       search needs,
       search needs,
-      flow-numbers-next _ (w .k) _ _ _ _ _ _ (omega arith) (w .inv .2) (ap (λ (f : Flow). f .period .0) e) (d .0 ∙ ap (λ (f : Flow). f .deadline .0) e) (d .1) (c .work .ensures ∙ ap work e),
+      flow-numbers-next _ (w .k) _ _ _ _ _ _ (omega arith) (w .inv .2) (ap (λ (f : Flow). f .period .0) e)
+          (d .0 ∙ ap (λ (f : Flow). f .deadline .0) e) (d .1) (c .work .ensures ∙ ap work e),
     )
 
 returns : tie.Need-returns Inv-loop μ-loop

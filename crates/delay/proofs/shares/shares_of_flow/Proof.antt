@@ -15,8 +15,10 @@ returns c =
     let p = b .pre in
     let s = p .1 .1 in
     let whole = own-whole (a .k) (a .n) (a .deadline) (a .period .now) _ _ _ _ (p .0 .0) (p .0 .1) d s in
+    let zero = own-zero-from (a .k) (a .n) (a .deadline) (a .period .now) _ _ _ _ (p .0 .0) (p .0 .1) d s in
+    let row = own-row (a .k) (a .n) (a .deadline) (a .period .now) _ _ _ _ (p .0 .0) (p .0 .1) d in
     let w = c .packet-sums .ensures in (
-      (own-zero-from (a .k) (a .n) (a .deadline) (a .period .now) _ _ _ _ (p .0 .0) (p .0 .1) d s, own-row (a .k) (a .n) (a .deadline) (a .period .now) _ _ _ _ (p .0 .0) (p .0 .1) d),
+      (zero, row),
       (w .0 ∙ whole (λ l. pairAt (a .conflict .now) (a .k) l), (w .1 .0 ∙ whole (λ l. getD (a .work .now) l 0), w .1 .1)),
     )
 

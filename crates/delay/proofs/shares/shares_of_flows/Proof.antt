@@ -23,7 +23,7 @@ shares-of-flow-requires c κs =
     let w = c .before .before .before .before .loop in
     let b = c .before .before .before .before .before in
     let h = c .before .before .before .loop-test .taken in
-    ((h, b .pre .0 .0, b .pre .0 .1 (w .k) h .1, λ l i. b .pre .0 .1 l i .0), (b .pre .0 .2 (w .k), w .inv .1, w .inv .2 .remainders .whole))
+    ((h, b .pre .0 .0, λ l i. b .pre .0 .1 l i .0), (b .pre .0 .2 (w .k), w .inv .1, w .inv .2 .remainders .whole))
 
 loop-again : tie.Need-loop-again Inv-loop μ-loop
 loop-again c =
