@@ -40,7 +40,8 @@ basic-carried s n t o m c k h =
     ∙ value-at-deadlines s k
 
 -- the value at the last list is the tightened bound
-pub tight-carried : (s : FlowSet) → s .count ≤ mostFlows → (t : Tables) → TablesHold s t → (m : ℕ) → m ≡ ways s → (d : List ℕ) → ListOf deadline s d → (g : List ℕ) → SlackWithin d g (s .count)
+pub tight-carried : (s : FlowSet) → s .count ≤ mostFlows → (t : Tables) → TablesHold s t → (m : ℕ) → m ≡ ways s
+    → (d : List ℕ) → ListOf deadline s d → (g : List ℕ) → SlackWithin d g (s .count)
     → listOfSlack d g (s .count) ≡ reached s .list → (k : ℕ) → k < s .count → tableValue t m g k ≡ tightBound s k
 unfolding tightBound
 tight-carried s n t o m q d f g b e k h =

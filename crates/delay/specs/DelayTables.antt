@@ -107,7 +107,8 @@ other-mul false x y = refl
 filled-ext : (f g : ℕ → ℕ) (n : ℕ) (t : List ℕ) → ((i : ℕ) → i < n → f i ≡ g i) → FilledTo f n t → FilledTo g n t
 filled-ext f g n t e o = record { whole = o .whole; entry = λ i h. o .entry i h ∙ e i h; none = o .none }
 
-module _ (s : FlowSet) (a : Accepted s) (p d w : List ℕ) (o : FlowNumbersTo s (s .count) p d w) (c : List ℕ) (g : RowsTo (conflictOf s) (s .count) (s .count) c) where
+module _ (s : FlowSet) (a : Accepted s) (p d w : List ℕ) (o : FlowNumbersTo s (s .count) p d w)
+    (c : List ℕ) (g : RowsTo (conflictOf s) (s .count) (s .count) c) where
   -- C, and with it S, is at most 64
   works-small : (l : ℕ) → l < s .count → workAt s l ≤ 64
   works-small l h = work-small (flowAt s l) (a .flow l h)

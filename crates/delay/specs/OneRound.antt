@@ -118,7 +118,8 @@ underway-done d t n m g h b o s j =
       flag = entry-moved-flag b d g h n (o .moved);
     }
 
-module _ (d : List ℕ) (t : Tables) (n m : ℕ) (g h : List ℕ) (k : ℕ) (b : Bool) (o : RoundUnderway d t n m g h k b) (l : k < n) (most : n ≤ mostFlows) (x : ℕ) (e : x ≡ tableValue t m h k) where
+module _ (d : List ℕ) (t : Tables) (n m : ℕ) (g h : List ℕ) (k : ℕ) (b : Bool) (o : RoundUnderway d t n m g h k b)
+    (l : k < n) (most : n ≤ mostFlows) (x : ℕ) (e : x ≡ tableValue t m h k) where
   abbrev u : List ℕ
   u = listOfSlack d h n
 

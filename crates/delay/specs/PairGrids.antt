@@ -68,7 +68,8 @@ lt-or-eq l n i q =
       | no h ↦ omega arith
     ]
 
-pub row-next : (f : ℕ → ℕ) (n k : ℕ) (t u : List ℕ) (x : ℕ) → k < mostFlows → n < mostFlows → RowDone f n k t u → x ≡ f n → RowDone f (n + 1) k t (set u (k * mostFlows + n) x)
+pub row-next : (f : ℕ → ℕ) (n k : ℕ) (t u : List ℕ) (x : ℕ) → k < mostFlows → n < mostFlows → RowDone f n k t u → x ≡ f n
+    → RowDone f (n + 1) k t (set u (k * mostFlows + n) x)
 row-next f n k t u x hk hn d e =
     let w = d .whole in
     let at = k * mostFlows + n in

@@ -85,10 +85,12 @@ admits-ext s f g e =
     all-ext (λ k. leb (f k) (deadline s k)) (λ k. leb (g k) (deadline s k)) (s .count) (λ k h. ap (λ (y : ℕ). leb y (deadline s k)) (e k h))
 
 -- the entries of the answer for all flows
-pub basic-entry : (s : FlowSet) (r : AllBounds) → AllBoundsOf s r → good (recordFault s .refusal) ≡ true → (k : ℕ) → k < s .count → getD (r .basic) k 0 ≡ basicBound s k
+pub basic-entry : (s : FlowSet) (r : AllBounds) → AllBoundsOf s r → good (recordFault s .refusal) ≡ true → (k : ℕ) → k < s .count
+    → getD (r .basic) k 0 ≡ basicBound s k
 basic-entry s r o e k h = o .basics k ∙ sym (ap (λ (x : Bounds). x .basic) (bounds-given s k e h))
 
-pub tight-entry : (s : FlowSet) (r : AllBounds) → AllBoundsOf s r → good (recordFault s .refusal) ≡ true → (k : ℕ) → k < s .count → getD (r .tightened) k 0 ≡ tightBound s k
+pub tight-entry : (s : FlowSet) (r : AllBounds) → AllBoundsOf s r → good (recordFault s .refusal) ≡ true → (k : ℕ) → k < s .count
+    → getD (r .tightened) k 0 ≡ tightBound s k
 tight-entry s r o e k h = o .tights k ∙ sym (ap (λ (x : Bounds). x .tightened) (bounds-given s k e h))
 
 -- its fault is the record check's
@@ -130,10 +132,12 @@ bounds-made s k f w b t d m p q r x y z =
     λ i. record { fault = p i; work = q i; basic = r i; tightened = x i; deadline = y i; margin = e i }
 
 -- whether the fault refuses the set
-pub passed-by : (s : FlowSet) (r : AllBounds) (b : Bool) → AllBoundsOf s r → b ≡ not (good (r .fault .refusal)) → b ≡ false → good (recordFault s .refusal) ≡ true
+pub passed-by : (s : FlowSet) (r : AllBounds) (b : Bool) → AllBoundsOf s r → b ≡ not (good (r .fault .refusal)) → b ≡ false
+    → good (recordFault s .refusal) ≡ true
 passed-by s r b o h z = sym (fault-entry s r o) ∙ not-refused (r .fault) (r .fault) b refl h z
 
-pub refused-by : (s : FlowSet) (r : AllBounds) (b : Bool) → AllBoundsOf s r → b ≡ not (good (r .fault .refusal)) → b ≡ true → good (recordFault s .refusal) ≡ false
+pub refused-by : (s : FlowSet) (r : AllBounds) (b : Bool) → AllBoundsOf s r → b ≡ not (good (r .fault .refusal)) → b ≡ true
+    → good (recordFault s .refusal) ≡ false
 refused-by s r b o h z = sym (fault-entry s r o) ∙ is-refused (r .fault) (r .fault) b refl h z
 
 -- the fault of a bound is that fault, or none

@@ -2,7 +2,7 @@
 // says from where on a node can stand there: most nodes need no search, and the others a short one.
 ghost use mathlib.Core.Path.{_≡_};
 ghost use mathlib.Core.List.{[]};
-ghost use Prim.Native.Nat.{_*_, _+_, _<_, _≤_};
+ghost use Prim.Native.Nat.{_+_, _<_, _≤_};
 ghost use lib.ListN.{getD, length, take};
 ghost use Rattle.delay.specs.RoutePlaces.{Places, endOn, endsOn, kindOf};
 ghost use Rattle.delay.specs.RouteLists.{Listed, ListedTo, listedWork};
@@ -11,6 +11,7 @@ ghost use Rattle.model.specs.Limits.{mostFlows, mostLinks, mostNodes};
 ghost use Rattle.model.specs.Sets.{used};
 ghost use Rattle.model.specs.Sums.{bit};
 ghost use Rattle.laws.specs.Accepted.{Accepted};
+use crate::shares;
 use model::Flow;
 use model::FlowSet;
 
@@ -138,14 +139,6 @@ fn links_touched(
     touched
 }
 
-// κ times a number of links.
-fn times(tries: u16, count: u16) -> u16
-    requires { ⌜ (tries ≤ 4) × (count ≤ mostLinks) ⌝ }
-    ensures { λ r. ⌜ r ≡ tries * count ⌝ }
-{
-    tries * count
-}
-
 // S of flow k and every flow, in row k.
 fn conflict_row(
     n: usize,
@@ -164,7 +157,7 @@ fn conflict_row(
     let mut l: usize = 0;
     while l < n {
         let touched = links_touched(nodes, &mine, wide(links[l]), routes, l, &places);
-        t[k * Flow::MOST + l] = times(tries[l], touched);
+        t[k * Flow::MOST + l] = shares::times(tries[l], touched) as u16;
         l += 1;
     }
 }

@@ -38,12 +38,15 @@ rounds-requires c κs = let b = start (c .before .before .before) in (b .pre .0 
 
 values-requires-2 : tie.Need-values-requires-2
 unfolding used
-values-requires-2 c κs = asked (c .before .before .before .before .before .before .before)
+values-requires-2 c κs =
+    let r = c .before .before .before in
+    asked (r .before .before .before .before)
 
 returns : tie.Need-returns
 unfolding used
 returns c =
-    let w = c .before .before .before .before .before .before .before .before .before in
+    let v = c .before .before .before .before .before .before in
+    let w = v .before .before .before in
     let b = start w in
     let u = used (b .args .s) in
     let t = tables b in
@@ -53,7 +56,7 @@ returns c =
     let r = c .before .before .before .before .before .rounds .ensures in
     record {
       fault = c .none2 .ensures;
-      basics = values-ext _ _ _ _ (basic-carried u n t o _ e) (c .before .before .before .before .before .before .values .ensures);
+      basics = values-ext _ _ _ _ (basic-carried u n t o _ e) (v .values .ensures);
       tights = values-ext _ _ _ _ (tight-carried u n t o _ e _ (b .pre .0 .1 .entries) _ (r .1) (r .0 .1)) (c .before .values2 .ensures);
       rounds = r .0 .0;
     }

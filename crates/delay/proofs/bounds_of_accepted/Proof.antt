@@ -12,12 +12,15 @@ tabulate-requires c κs = (accepted _ (c .before .before .before .before .before
 bounds-by-tables-requires : tie.Need-bounds-by-tables-requires
 bounds-by-tables-requires c κs =
     let t = c .before .before .before .before .before .before in
-    ((accepted _ (t .before .before .before .before .before .before .before .pre), t .tabulate .ensures .0), t .tabulate .ensures .1)
+    let w = t .before in
+    ((accepted _ (w .before .before .before .before .before .before .pre), t .tabulate .ensures .0), t .tabulate .ensures .1)
 
 returns : tie.Need-returns
 returns c =
-    let t = c .before .before .before .before .before .before .before in
-    all-given _ _ (t .before .before .before .before .before .before .before .pre) (c .bounds-by-tables .ensures)
+    let r = c .before in
+    let t = r .before .before .before .before .before .before in
+    let w = t .before in
+    all-given _ _ (w .before .before .before .before .before .before .pre) (c .bounds-by-tables .ensures)
 
 pub bounds-of-accepted-spec : {M : Type 1} → statement M
 bounds-of-accepted-spec = tie.close (tie.spec tabulate-requires bounds-by-tables-requires returns)

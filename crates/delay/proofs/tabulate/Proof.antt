@@ -7,15 +7,20 @@ use Rattle.delay.proofs.tabulate.Statement.{statement}
 use Rattle.delay.proofs.tabulate.Tie as tie
 
 periods-deadlines-work-requires : tie.Need-periods-deadlines-work-requires
-periods-deadlines-work-requires c κs = (c .before .before .before .pre .0, flow-numbers-lent _ (c .before .before .before .pre .1 .0) _ _ (c .before .before .before .pre .1 .1))
+periods-deadlines-work-requires c κs =
+    let p = c .before .before .before .pre in
+    (p .0, flow-numbers-lent _ (p .1 .0) _ _ (p .1 .1))
 
 conflict-work-of-all-requires : tie.Need-conflict-work-of-all-requires
-conflict-work-of-all-requires c κs = (c .before .before .before .before .before .pre .0, conflicts-lent _ (c .before .before .before .before .before .pre .1 .0) _ _)
+conflict-work-of-all-requires c κs =
+    let p = c .before .before .before .before .before .pre in
+    (p .0, conflicts-lent _ (p .1 .0) _ _)
 
 shares-of-flows-requires : tie.Need-shares-of-flows-requires
 unfolding used
 shares-of-flows-requires c κs =
-    let g = c .before .before .before .before .before .before .before .before in
+    let r = c .before .before .before .before in
+    let g = r .before .before .before .before in
     let n = g .before .before in
     let b = n .before .before .before .before in
     let a = b .pre .0 in
@@ -27,7 +32,8 @@ shares-of-flows-requires c κs =
 returns : tie.Need-returns
 unfolding used
 returns c =
-    let g = c .before .before .before .before .before .before .before .before .before in
+    let r = c .before .before .before .before .before in
+    let g = r .before .before .before .before in
     let n = g .before .before in
     let b = n .before .before .before .before in
     let o = n .periods-deadlines-work .ensures in (

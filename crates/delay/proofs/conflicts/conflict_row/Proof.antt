@@ -2,7 +2,9 @@
 use mathlib.Core.Path.{_≡_, ap, _∙_}
 use Prim.Native.Nat.{ℕ, _*_, _-_, _≤_, _<_}
 use lib.ListN.{getD}
+use native.Mathlib.Nat.{lt-of-le-of-lt, le-trans, le-of-eq, mul-le-mul}
 use native.Mathlib.Omega.{arith}
+use lib.Dec.{lit<}
 use Rattle.delay.specs.PairGrids.{RowDone, row-start, row-next}
 use Rattle.delay.specs.RouteLists.{listedWork}
 use Rattle.model.specs.Limits.{mostFlows}
@@ -46,7 +48,17 @@ times-requires c κs =
     let w = t .before .before .before .before .before .before in
     let b = w .before .before .before .before .before .before in
     let h : w .loop .l < b .args .n = search needs in
-    (b .pre .2 .tries-le (w .loop .l) h, t .links-touched .ensures .1)
+    let few = b .pre .2 .tries-le (w .loop .l) h in
+    (omega arith, omega (arith, t .links-touched .ensures .1))
+
+cast-t : tie.Need-cast-t Inv-loop μ-loop
+cast-t c =
+    let t = c .before .before in
+    let w = t .before .before .before .before .before .before in
+    let b = w .before .before .before .before .before .before in
+    let h : w .loop .l < b .args .n = search needs in
+    let most = mul-le-mul (b .pre .2 .tries-le (w .loop .l) h) (t .links-touched .ensures .1) in
+    record { fits = lt-of-le-of-lt (le-trans (le-of-eq (c .times .ensures .0)) most) (lit< tt) }
 
 loop-again : tie.Need-loop-again Inv-loop μ-loop
 loop-again c =
@@ -56,7 +68,7 @@ loop-again c =
     let k = w .before .before .before .wide .ensures .0 in
     let l = t .before .before .wide2 .ensures .0 in
     let s = ap (λ (x : ℕ). getD (b .args .tries .now) (w .loop .l) 0 * x) (rw (l, k) at (t .links-touched .ensures .0)) in
-    (search needs, search needs, row-next _ (w .loop .l) (b .args .k) _ _ _ (omega arith) (omega arith) (w .loop .inv .2) (c .times .ensures ∙ s))
+    (search needs, search needs, row-next _ (w .loop .l) (b .args .k) _ _ _ (omega arith) (omega arith) (w .loop .inv .2) (c .times .ensures .0 ∙ s))
 
 returns : tie.Need-returns Inv-loop μ-loop
 returns c =
@@ -85,6 +97,7 @@ conflict-row-spec =
     (λ c. search needs)
     (λ c. search needs)
     times-requires
+    cast-t
     (λ c. search needs)
     (λ c. search needs)
     (λ c. search needs)

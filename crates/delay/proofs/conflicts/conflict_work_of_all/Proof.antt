@@ -14,7 +14,8 @@ conflict-rows-requires : tie.Need-conflict-rows-requires
 conflict-rows-requires c κs =
     let o = c .before .before .before .before .before in
     let b = o .before .before .before .before in
-    (listed-small (b .args .s) (b .pre .0) _ _ _ (o .list-routes .ensures) (count-at (b .args .s) (b .pre .0)), rows-ext _ _ _ 0 _ (λ i l h. absurd (omega arith)) (b .pre .1))
+    let few = count-at (b .args .s) (b .pre .0) in
+    (listed-small (b .args .s) (b .pre .0) _ _ _ (o .list-routes .ensures) few, rows-ext _ _ _ 0 _ (λ i l h. absurd (omega arith)) (b .pre .1))
 
 returns : tie.Need-returns
 returns c =

@@ -41,9 +41,10 @@ loop-holds c =
 
 loop-again : tie.Need-loop-again Inv-loop μ-loop Inv-ends μ-ends
 loop-again c =
-    let s = c .before .before .before .before .before .before .before in
+    let i = c .before .before .before in
+    let s = i .before .before .before .before in
     let a = s .before .args in
-    let w = c .before .before .before .loop in
+    let w = i .loop in
     (w .inv .0, w .inv .1 ∙ memb-on (a .mine .now) (a .n) (s .ends .inv .2) _ (w .j) (c .before .before .loop-test .taken) (c .if1 .left))
 
 ends-again : tie.Need-ends-again Inv-loop μ-loop Inv-ends μ-ends
@@ -65,11 +66,12 @@ returns c =
 
 returns-2 : tie.Need-returns-2 Inv-loop μ-loop Inv-ends μ-ends
 returns-2 c =
-    let s = c .before .before .before .before .before .before .before in
+    let i = c .before .before .before in
+    let s = i .before .before .before .before in
     let a = s .before .args in
-    let w = c .before .before .before .loop in
+    let w = i .loop in
     sym
-    (any-in _ 2 (s .ends .e) (c .before .before .before .before .before .before .ends-test .taken)
+    (any-in _ 2 (s .ends .e) (i .before .before .before .ends-test .taken)
     (w .inv .1 ∙ memb-here (a .mine .now) (a .n) (s .ends .inv .2) _ (w .j) (c .before .before .loop-test .taken) (c .if1 .taken))
     )
 

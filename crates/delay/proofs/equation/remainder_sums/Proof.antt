@@ -34,29 +34,33 @@ loop-holds c = (
 
 add-x : tie.Need-add-x Inv-loop μ-loop
 add-x c =
-    let w = c .before .before .before .before .before .before .loop in
-    let s = c .before .before .before .before .before .before .before .pre .1 .conflicts (w .l) (c .before .before .before .before .before .loop-test .taken) in
+    let t = c .before .before .before .before .before in
+    let w = t .before .loop in
+    let s = t .before .before .pre .1 .conflicts (w .l) (t .loop-test .taken) in
     let e = c .least .ensures in
     omega arith
 
 add-w : tie.Need-add-w Inv-loop μ-loop
 add-w c =
-    let w = c .before .before .before .before .before .before .before .before .loop in
-    let s = c .before .before .before .before .before .before .before .before .before .pre .1 .works (w .l) (c .before .before .before .before .before .before .before .loop-test .taken) in
+    let m = c .before .before in
+    let t = m .before .before .before .before .before in
+    let w = t .before .loop in
+    let s = t .before .before .pre .1 .works (w .l) (t .loop-test .taken) in
     let e = c .least2 .ensures in
     omega arith
 
 loop-again : tie.Need-loop-again Inv-loop μ-loop
 loop-again c =
-    let w = c .before .before .before .before .before .before .before .before .loop in
-    let b = c .before .before .before .before .before .before .before .before .before in
-    let h = c .before .before .before .before .before .before .before .loop-test .taken in
+    let m = c .before .before in
+    let t = m .before .before .before .before .before in
+    let w = t .before .loop in
+    let b = t .before .before in
     let a = b .args in
-    let s = b .pre .1 .conflicts (w .l) h in
-    let t = b .pre .1 .works (w .l) h in
-    let e = c .before .before .least .ensures in
+    let conflicts = b .pre .1 .conflicts (w .l) (t .loop-test .taken) in
+    let works = b .pre .1 .works (w .l) (t .loop-test .taken) in
+    let e = m .least .ensures in
     let f = c .least2 .ensures in
-    let y = c .before .before .before .before .less .ensures in (
+    let y = m .before .before .less .ensures in (
       search needs,
       omega arith,
       omega arith,

@@ -12,9 +12,11 @@ returns : tie.Need-returns
 unfolding tableValue
 returns c =
     let b = c .before .before .before .before .before .before in
-    let a = b .before .args in (
+    let a = b .before .args in
+    let conflict = getD (a .whole-conflict .now) (a .k) 0 in
+    let whole = getD (a .whole-work .now) (a .k) 0 in (
       c .joined-bound .ensures .0
-          ∙ ap₂ (λ (x w : ℕ). joined (getD (a .work .now) (a .k) 0) (getD (a .whole-conflict .now) (a .k) 0 + x) (getD (a .whole-work .now) (a .k) 0 + w) (a .m))
+          ∙ ap₂ (λ (x w : ℕ). joined (getD (a .work .now) (a .k) 0) (conflict + x) (whole + w) (a .m))
           (b .remainder-sums .ensures .0 .0) (b .remainder-sums .ensures .1 .0),
       c .joined-bound .ensures .1,
     )

@@ -9,7 +9,8 @@ use Rattle.delay.proofs.equation.values.Statement.{statement}
 use Rattle.delay.proofs.equation.values.Tie as tie
 
 abbrev Inv-loop : tie.InvT-loop
-Inv-loop n m conflict remainder work whole-conflict whole-work slack out₀ j₀ out j = (j ≤ n) × ValuesTo (tableValue (tablesOf conflict remainder work whole-conflict whole-work) m slack) j out
+Inv-loop n m conflict remainder work whole-conflict whole-work slack out₀ j₀ out j =
+    (j ≤ n) × ValuesTo (tableValue (tablesOf conflict remainder work whole-conflict whole-work) m slack) j out
 
 abbrev μ-loop : tie.MeasureT-loop
 μ-loop n m conflict remainder work whole-conflict whole-work slack out₀ j₀ out j = n - j

@@ -27,9 +27,10 @@ value-requires c κs =
 
 loop-again : tie.Need-loop-again Inv-loop μ-loop
 loop-again c =
-    let w = c .before .before .before .before .before .before .loop in
-    let b = c .before .before .before .before .before .before .before in
-    let h = c .before .before .before .before .before .loop-test .taken in
+    let t = c .before .before .before .before .before in
+    let w = t .before .loop in
+    let b = t .before .before in
+    let h = t .loop-test .taken in
     let x = c .before .before .before .value in
     let f = c .before .deadline-less-value .ensures in
     let i : getD (b .args .t9) (w .k) 0 < getD (b .args .deadline .now) (w .k) 0 - x .result = rw (← f) (c .if1 .taken) in
@@ -37,9 +38,10 @@ loop-again c =
 
 loop-again-2 : tie.Need-loop-again-2 Inv-loop μ-loop
 loop-again-2 c =
-    let w = c .before .before .before .before .before .before .loop in
-    let b = c .before .before .before .before .before .before .before in
-    let h = c .before .before .before .before .before .loop-test .taken in
+    let t = c .before .before .before .before .before in
+    let w = t .before .loop in
+    let b = t .before .before in
+    let h = t .loop-test .taken in
     let x = c .before .before .before .value in
     let f = c .before .deadline-less-value .ensures in
     let i : getD (b .args .deadline .now) (w .k) 0 - x .result ≤ getD (b .args .t9) (w .k) 0 = rw (← f) (c .if1 .left) in

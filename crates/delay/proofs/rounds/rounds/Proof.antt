@@ -1,4 +1,5 @@
--- `rounds`: either the rounds go on as the definition's do, with room left, or they are over and the list is what the definition reaches. Assumes nothing beyond its `requires`.
+-- `rounds`: either the rounds go on as the definition's do, with room left, or they are over and the list is what the definition reaches.
+-- Assumes nothing beyond its `requires`.
 use mathlib.Core.Path.{refl, sym}
 use mathlib.Core.Bool.{true, false}
 use Prim.Native.Nat.{_-_, _<_}
@@ -15,7 +16,8 @@ use Rattle.delay.proofs.rounds.rounds.Statement.{statement}
 use Rattle.delay.proofs.rounds.rounds.Tie as tie
 
 abbrev Inv-loop : tie.InvT-loop
-Inv-loop s conflict remainder work deadline whole-conflict whole-work m slack₀ count₀ going₀ slack count going = SlackWithin deadline slack (s .count) × RoundsGoing (used s) going count (listOfSlack deadline slack (s .count))
+Inv-loop s conflict remainder work deadline whole-conflict whole-work m slack₀ count₀ going₀ slack count going =
+    SlackWithin deadline slack (s .count) × RoundsGoing (used s) going count (listOfSlack deadline slack (s .count))
 
 abbrev μ-loop : tie.MeasureT-loop
 μ-loop s conflict remainder work deadline whole-conflict whole-work m slack₀ count₀ going₀ slack count going = mostRounds (used s) - count
@@ -29,7 +31,8 @@ turn c = c .before .before .before
 
 -- in a turn the rounds go on
 still : (c : tie.In-loop Inv-loop μ-loop)
-    → RoundsGoing (used (start (c .before) .args .s)) true (c .before .loop .count) (listOfSlack (start (c .before) .args .deadline .now) (c .before .loop .slack) (start (c .before) .args .s .count))
+    → RoundsGoing (used (start (c .before) .args .s)) true (c .before .loop .count)
+    (listOfSlack (start (c .before) .args .deadline .now) (c .before .loop .slack) (start (c .before) .args .s .count))
 still c = rw (c .loop-test .taken) at (c .before .loop .inv .1)
 
 loop-holds : tie.Need-loop-holds Inv-loop μ-loop
@@ -66,15 +69,25 @@ loop-again c =
     let b = start (i .before) in
     let a = b .pre .0 in
     let u = used (b .args .s) in
-    let r = c .before .one-round .ensures in
-    (r .1, going-next u (accepted-fits u a) (i .before .loop .count) _ _ _ (still i) (r .0 u record { tables = b .pre .1 .0; deadlines = b .pre .1 .1 .entries; count = refl; channels = sym (i .before .before .ways .ensures); most = a .count-le }))
+    let r = c .before .one-round .ensures in (
+      r .1,
+      going-next u (accepted-fits u a) (i .before .loop .count) _ _ _ (still i)
+          (r .0 u record {
+            tables = b .pre .1 .0;
+            deadlines = b .pre .1 .1 .entries;
+            count = refl;
+            channels = sym (i .before .before .ways .ensures);
+            most = a .count-le;
+          }),
+    )
 
 returns : tie.Need-returns Inv-loop μ-loop
 unfolding used
 returns c =
     let b = c .before in
     let s = start b .args in
-    let g : RoundsGoing (used (s .s)) false (b .loop .count) (listOfSlack (s .deadline .now) (b .loop .slack) (s .s .count)) = rw (c .loop-test .left) at (b .loop .inv .1) in
+    let g : RoundsGoing (used (s .s)) false (b .loop .count) (listOfSlack (s .deadline .now) (b .loop .slack) (s .s .count)) =
+    rw (c .loop-test .left) at (b .loop .inv .1) in
     ((sym (g .2), sym (g .1)), b .loop .inv .0)
 
 pub rounds-spec : {M : Type 1} → statement M

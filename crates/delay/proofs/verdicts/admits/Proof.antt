@@ -31,7 +31,8 @@ loop-again c =
     let b = w .before .args in
     let h : w .loop .k < b .t1 .count = c .before .before .before .loop-test .taken in
     let e = ap (λ (f : Flow). leb (getD (b .t2) (w .loop .k) 0) (f .deadline .0)) (used-flow (b .t1) (w .loop .k) h) in
-    (search needs, search needs, c .both .ensures ∙ ap₂ (λ (x y : Bool). x && y) (w .loop .inv .2) (c .before .keeps .ensures ∙ sym e) ∙ sym (all-next _ (w .loop .k)))
+    let so-far = ap₂ (λ (x y : Bool). x && y) (w .loop .inv .2) (c .before .keeps .ensures ∙ sym e) in
+    (search needs, search needs, c .both .ensures ∙ so-far ∙ sym (all-next _ (w .loop .k)))
 
 returns : tie.Need-returns Inv-loop μ-loop
 unfolding admits used
