@@ -1,12 +1,33 @@
-// The plan program: a set on standard input, its plan on standard output.
-use libc::STDIN_FILENO;
+// The plan program: a set on standard input, its plan on standard output. What fails is said on standard error.
+mod input;
+
+use crate::input::Input;
+use crate::input::read_input;
+use libc::STDERR_FILENO;
 use libc::STDOUT_FILENO;
 
+// Writes the plan of an input to standard output.
+fn print_plan(input: &[u8]) {
+    let mut out = [0u8; plan_text::MOST_PLAN];
+    let w = plan_text::plan(input, &mut out);
+    let fault = w.fault;
+    if fault.refuses() {
+        io::write_all(STDERR_FILENO, b"plan: the plan is longer than its buffer\n");
+        return;
+    }
+    let m = w.length;
+    if !io::write_all(STDOUT_FILENO, &out[..m]) {
+        os::fail(b"plan: cannot write standard output");
+    }
+}
+
+// An input that cannot be read to its end gives no plan.
 fn main() {
     let mut input = [0u8; 16385];
-    let n = io::read_full(STDIN_FILENO, &mut input);
-    let mut out = [0u8; plan_text::MOST_PLAN];
-    let w = plan_text::plan(&input[..n], &mut out);
-    let m = w.length;
-    io::write_all(STDOUT_FILENO, &out[..m]);
+    let read = read_input(&mut input);
+    let Input::Whole(n) = read else {
+        os::fail(b"plan: cannot read standard input");
+        return;
+    };
+    print_plan(&input[..n]);
 }

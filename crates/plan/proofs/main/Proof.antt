@@ -1,28 +1,24 @@
--- The plan lies within the buffer that was lent for it. Assumes nothing.
-use mathlib.Core.Path.{_≡_, sym, ap}
-use mathlib.Core.List.{List}
+-- An input that came whole lies within the buffer that was lent for it.
+use mathlib.Core.Path.{_≡_, sym, subst}
 use Prim.Native.Nat.{ℕ, _≤_}
-use native.Mathlib.Omega.{arith}
-use lib.ListN.{length, length-replicate, replicate}
 use lib.Seq.{length-take-le}
-use Rattle.model.specs.declared.answers.Written.{Written}
-use Rattle.plan_text.specs.PlanOfReading.{answer-le}
 use borrow.Author.Needs.{needs}
+use Rattle.plan.specs.declared.input.Input.{Input}
+use Rattle.plan.specs.declared.input.Input.the-variants.{Whole}
+use Rattle.plan.specs.Reads.{Fits}
 use Rattle.plan.proofs.main.Statement.{statement}
-use Rattle.document.specs.Program.{planAnswer}
 use Rattle.plan.proofs.main.Tie as tie
 
-within : {w : Written} (input out : List ℕ) → w ≡ planAnswer input (length (replicate {A = ℕ} 18432 0)) → length out ≡ 18432 → w .length ≤ length out
-within input out e h =
-    let a = answer-le input (length (replicate {A = ℕ} 18432 0)) in
-    let b = ap (λ (x : Written). x .length) e in
-    omega (arith, length-replicate {A = ℕ} 18432 0, a, b, h)
+whole-fits : {r : Input} {n room : ℕ} → r ≡ Whole n → Fits r room → n ≤ room
+whole-fits {r} {n} {room} e h = subst (λ (x : Input). Fits x room) e h
 
-array-share-prefix-out : tie.Need-array-share-prefix-out
-array-share-prefix-out c = within _ (c .before .plan .last .1 .0) (c .before .plan .ensures .0) (c .out2 .given)
+array-share-prefix-input : tie.Need-array-share-prefix-input
+array-share-prefix-input c = whole-fits (c .before .read .given .1) (c .before .before .before .before .read-input .ensures)
 
-slice-aggregate-write-all : tie.Need-slice-aggregate-write-all
-slice-aggregate-write-all c = sym (length-take-le _ (c .before .before .plan .last .1 .0) (within _ (c .before .before .plan .last .1 .0) (c .before .before .plan .ensures .0) (c .before .out2 .given)))
+slice-aggregate-print-plan : tie.Need-slice-aggregate-print-plan
+slice-aggregate-print-plan c =
+    let w = whole-fits (c .before .before .read .given .1) (c .before .before .before .before .before .read-input .ensures) in
+    sym (length-take-le _ (c .before .before .before .before .before .read-input .last .0) w)
 
 pub main-spec : {M : Type 1} → statement M
 main-spec =
@@ -34,7 +30,8 @@ main-spec =
     (λ c. search needs)
     (λ c. search needs)
     (λ c κs. search needs)
-    array-share-prefix-out
-    slice-aggregate-write-all
+    (λ c. search needs)
+    array-share-prefix-input
+    slice-aggregate-print-plan
     (λ c κs. search needs)
     (λ c. search needs))

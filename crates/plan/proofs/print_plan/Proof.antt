@@ -1,0 +1,48 @@
+-- The plan lies within the buffer that was lent for it.
+use mathlib.Core.Path.{_≡_, sym, ap}
+use mathlib.Core.List.{List}
+use Prim.Native.Nat.{ℕ, _≤_}
+use native.Mathlib.Omega.{arith}
+use lib.ListN.{length, length-replicate, replicate}
+use lib.Seq.{length-take-le}
+use Rattle.model.specs.declared.answers.Written.{Written}
+use Rattle.document.specs.Program.{planAnswer}
+use Rattle.plan_text.specs.PlanOfReading.{answer-le}
+use borrow.Author.Needs.{needs}
+use Rattle.plan.proofs.print_plan.Statement.{statement}
+use Rattle.plan.proofs.print_plan.Tie as tie
+
+within : {w : Written} (input out : List ℕ) → w ≡ planAnswer input (length (replicate {A = ℕ} 18432 0)) → length out ≡ 18432
+    → w .length ≤ length out
+within input out e h =
+    let a = answer-le input (length (replicate {A = ℕ} 18432 0)) in
+    let b = ap (λ (x : Written). x .length) e in
+    omega (arith, length-replicate {A = ℕ} 18432 0, a, b, h)
+
+array-share-prefix-out : tie.Need-array-share-prefix-out
+array-share-prefix-out c =
+    let made = c .before .before .before .before .plan in
+    within _ (made .last .1 .0) (made .ensures .0) (c .before .before .before .out2 .given)
+
+slice-aggregate-write-all-2 : tie.Need-slice-aggregate-write-all-2
+slice-aggregate-write-all-2 c =
+    let made = c .before .before .before .before .before .plan in
+    sym (length-take-le _ (made .last .1 .0) (within _ (made .last .1 .0) (made .ensures .0) (c .before .before .before .before .out2 .given)))
+
+pub print-plan-spec : {M : Type 1} → statement M
+print-plan-spec =
+    tie.close
+    (tie.spec
+    (λ c. search needs)
+    (λ c κs. search needs)
+    (λ c κs. search needs)
+    (λ c. search needs)
+    (λ c κs. search needs)
+    (λ c. search needs)
+    array-share-prefix-out
+    slice-aggregate-write-all-2
+    (λ c κs. search needs)
+    (λ c. search needs)
+    (λ c κs. search needs)
+    (λ c. search needs)
+    (λ c. search needs))

@@ -1,0 +1,33 @@
+-- What the answer of a read means.
+use mathlib.Core.Bool.{Bool, false, cond}
+use mathlib.Core.Path.{_≡_}
+use Prim.Native.Nat.{ℕ, zero, suc, _≤_, _<_}
+use lib.Dec.{eqb}
+use lib.IntN.{ℤ, pos, negsuc}
+use Rattle.plan.specs.declared.input.Came.{Came}
+use Rattle.plan.specs.declared.input.Came.the-variants.{Bytes, End, Interrupted, Broken}
+use Rattle.plan.specs.declared.input.Input.{Input}
+use Rattle.plan.specs.declared.input.Input.the-variants.{Whole, Failed}
+
+-- the error of a call that a signal interrupted (EINTR)
+abbrev pub interrupts : ℤ → Bool
+interrupts (pos e) = eqb e 4
+interrupts (negsuc e) = false
+
+-- only the answer 0 is the end of the input; a negative one is a read that failed
+abbrev pub cameOf : ℤ → ℤ → Came
+cameOf (pos zero) e = End
+cameOf (pos (suc k)) e = Bytes (suc k)
+cameOf (negsuc k) e = cond (interrupts e) Interrupted Broken
+
+-- the bytes that came are within the buffer, and at least one
+abbrev pub Within : Came → ℕ → Type 0
+Within (Bytes n) room = (0 < n) × (n ≤ room)
+Within End room = Unit {0}
+Within Interrupted room = Unit {0}
+Within Broken room = Unit {0}
+
+-- an input that came whole is within the buffer
+abbrev pub Fits : Input → ℕ → Type 0
+Fits (Whole n) room = n ≤ room
+Fits Failed room = Unit {0}
