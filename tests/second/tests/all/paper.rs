@@ -17,6 +17,13 @@ fn the_plan_of_p1_is_byte_for_byte() {
     assert_eq!(plan_of(P1_TEXT), P1_PLAN);
 }
 
+/// The plan that `tests/plan/run` asks of the proved program: more than 7,500 bytes.
+#[test]
+fn the_long_plan_is_byte_for_byte() {
+    let (set, planned) = (include_str!("../../../plan/long.set"), include_str!("../../../plan/long.plan"));
+    assert_eq!(plan_of(set), planned);
+}
+
 #[test]
 fn p1_has_three_rounds_and_its_margins() {
     let set = set_of(P1_TEXT);
