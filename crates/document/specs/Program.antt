@@ -104,9 +104,13 @@ abbrev pub planIf : Reading → Bool → List ℕ
 planIf r true = planOf (used (r .set))
 planIf r false = refusedLine (r .fault)
 
+-- input of more bytes is not read
+abbrev pub mostInput : ℕ
+mostInput = 16384
+
 unfoldable pub planText : List ℕ → List ℕ
 planText input =
-    elim (ltb 16384 (length input)) [
+    elim (ltb mostInput (length input)) [
       | true ↦ refusedLine (faultAt NoRoom 0)
       | false ↦ planIf (readText input) (good (readText input .fault .refusal))
     ]

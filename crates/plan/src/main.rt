@@ -23,7 +23,7 @@ fn print_plan(input: &[u8]) {
 
 // An input that cannot be read to its end gives no plan.
 fn main() {
-    let mut input = [0u8; 16385];
+    let mut input = [0u8; plan_text::MOST_INPUT + 1];
     let read = read_input(&mut input);
     let Input::Whole(n) = read else {
         os::fail(b"plan: cannot read standard input");

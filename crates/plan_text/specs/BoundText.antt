@@ -29,4 +29,5 @@ bound-text k b e =
     append-assoc (boundWord ++ fieldsOf (boundNumbers k b)) (9 ∷ marginText (b .deadline .0) (b .tightened)) (10 ∷ [])
     ∙ append-assoc boundWord (fieldsOf (boundNumbers k b)) ((9 ∷ marginText (b .deadline .0) (b .tightened)) ++ (10 ∷ []))
     ∙ ap (λ (l : List ℕ). boundWord ++ l) (sym (last-field (boundNumbers k b) (marginText (b .deadline .0) (b .tightened))))
-    ∙ ap (λ (f : List ℕ). boundWord ++ tabbed (decimals (boundNumbers k b) ++ (f ∷ []))) (sym (signed-margin (b .deadline .0) (b .tightened)) ∙ ap signed (sym e))
+    ∙ ap (λ (f : List ℕ). boundWord ++ tabbed (decimals (boundNumbers k b) ++ (f ∷ [])))
+    (sym (signed-margin (b .deadline .0) (b .tightened)) ∙ ap signed (sym e))

@@ -1,6 +1,5 @@
 pub mod Margins
 pub mod PlanOfReading
-pub mod ReadSetsPass
 pub mod RunSlotBySlot
 pub mod BoundText
 pub mod PlanInBuffer

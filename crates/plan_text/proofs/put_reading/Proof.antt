@@ -1,8 +1,8 @@
--- `put_reading` puts the plan, or the line of the refusal. Assumes nothing.
+-- The plan is put, or the line of the refusal.
 use Prim.{tt}
 use mathlib.Core.Path.{sym}
 use Rattle.text.specs.Put.{put-same}
-use Rattle.plan_text.specs.PlanInBuffer.{read-good, read-refused, refused-le}
+use Rattle.plan_text.specs.PlanInBuffer.{read-good, read-refused}
 use Rattle.plan_text.specs.ReadingRefused.{reading-accepted, reading-refused}
 use Rattle.plan_text.proofs.put_reading.Statement.{statement}
 use Rattle.plan_text.proofs.put_reading.Tie as tie
@@ -15,7 +15,7 @@ returns c =
     let d = c .before .before .before .before in
     let r = d .before .before .before .before .args .reading in
     let e = read-refused r (reading-refused r (d .before .refuses .ensures) (d .if1 .taken)) in
-    (put-same _ _ _ _ _ _ (sym e) (c .before .before .put-refused .ensures), rw e (refused-le (r .fault)))
+    put-same _ _ _ _ _ _ (sym e) (c .before .before .put-refused .ensures)
 
 put-plan-requires : tie.Need-put-plan-requires
 put-plan-requires c κs =
@@ -31,7 +31,7 @@ returns-2 c =
     let d = c .before .before .before .before .before in
     let r = d .before .before .before .before .args .reading in
     let e = read-good r (reading-accepted r (d .before .refuses .ensures) (d .if1 .left)) in
-    (put-same _ _ _ _ _ _ (sym e) (c .before .before .put-plan .ensures .0), rw e (c .before .before .put-plan .ensures .1))
+    put-same _ _ _ _ _ _ (sym e) (c .before .before .put-plan .ensures)
 
 pub put-reading-spec : {M : Type 1} → statement M
 put-reading-spec =

@@ -1,12 +1,10 @@
--- `put_text` puts the refusal of input that is too long, or what was read. Assumes nothing.
+-- Input that is too long gives its refusal; of any other what was read is put, and a set that was read passes the record check.
 use Prim.{tt}
 use mathlib.Core.Path.{sym, ap, _∙_}
-use Rattle.model.specs.declared.answers.Refusal.the-variants.{NoRoom}
-use Rattle.model.specs.Refusals.{faultAt}
 use Rattle.text.specs.Put.{put-same}
 use Rattle.plan_text.specs.PlanOfReading.{planRead}
-use Rattle.plan_text.specs.ReadSetsPass.{read-pass}
-use Rattle.plan_text.specs.PlanInBuffer.{text-long, text-short, refused-le}
+use Rattle.promise.specs.TextHeld.{text-passes}
+use Rattle.plan_text.specs.PlanInBuffer.{text-long, text-short}
 use Rattle.plan_text.proofs.put_text.Statement.{statement}
 use Rattle.plan_text.proofs.put_text.Tie as tie
 
@@ -18,12 +16,12 @@ returns c =
     let test = c .before .before .before .before in
     let input = test .before .before .before .before .args .input .now in
     let e = text-long input (sym (test .before .is-too-long .ensures) ∙ test .if1 .taken) in
-    (put-same _ _ _ _ _ _ (sym e) (c .before .before .put-too-long .ensures), rw e (refused-le (faultAt NoRoom 0)))
+    put-same _ _ _ _ _ _ (sym e) (c .before .before .put-too-long .ensures)
 
 put-reading-requires : tie.Need-put-reading-requires
 put-reading-requires c κs = λ g.
     let r = c .before .read .ensures in
-    rw r (read-pass (c .before .before .before .before .before .before .args .input .now) (rw (← r) g))
+    rw r (text-passes (c .before .before .before .before .before .before .args .input .now) (rw (← r) g))
 
 same-length-2 : tie.Need-same-length-2
 same-length-2 c = c .before .before .put-reading .kept .0
@@ -32,9 +30,9 @@ returns-2 : tie.Need-returns-2
 returns-2 c =
     let test = c .before .before .before .before .before in
     let input = test .before .before .before .before .args .input .now in
-    let w = c .before .before .put-reading .ensures in
-    let e = text-short input (sym (test .before .is-too-long .ensures) ∙ test .if1 .left) ∙ ap planRead (sym (c .before .before .before .before .read .ensures)) in
-    (put-same _ _ _ _ _ _ (sym e) (w .0), rw e (w .1))
+    let l = text-short input (sym (test .before .is-too-long .ensures) ∙ test .if1 .left) in
+    let e = l ∙ ap planRead (sym (c .before .before .before .before .read .ensures)) in
+    put-same _ _ _ _ _ _ (sym e) (c .before .before .put-reading .ensures)
 
 pub put-text-spec : {M : Type 1} → statement M
 put-text-spec =

@@ -27,10 +27,11 @@ within (negsuc k) e room h = go (interrupts e)
 
 returns : tie.Need-returns
 returns c =
-    let got = c .before .before .before .before .read .result in
-    let back = toZ-ofZ w64 got (record { sfits = c .before .before .before .before .read .ok }) in
-    let room = length (now (c .before .before .before .before .before .before .before .args .buf)) in
-    let moved : Moved room (toZ w64 (ofZ w64 got)) = subst (Moved room) (sym back) (c .before .before .before .before .read .ensures) in
+    let called = c .before .before .before .before in
+    let got = called .read .result in
+    let back = toZ-ofZ w64 got (record { sfits = called .read .ok }) in
+    let room = length (now (called .before .before .before .args .buf)) in
+    let moved : Moved room (toZ w64 (ofZ w64 got)) = subst (Moved room) (sym back) (called .read .ensures) in
     let error = toZ w32 (ofZ w32 (c .before .errno .result)) in
     subst (λ (w : Came). Within w room) (sym (c .came-of .ensures)) (within (toZ w64 (ofZ w64 got)) error room moved)
 

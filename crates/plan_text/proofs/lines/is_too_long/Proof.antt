@@ -1,4 +1,4 @@
--- `is_too_long` is the definition's test. Assumes nothing.
+-- The test is the definition's.
 use mathlib.Core.Path.{refl}
 use Rattle.plan_text.proofs.lines.is_too_long.Statement.{statement}
 use Rattle.plan_text.proofs.lines.is_too_long.Tie as tie

@@ -1,4 +1,4 @@
--- `put_bound` puts the word, the five numbers, the margin and the LF one after the other. Assumes nothing.
+-- The word, the five numbers, the margin and the LF are put one after the other.
 use Prim.Native.Nat.{_≤_}
 use native.Mathlib.Omega.{arith}
 use lib.ListN.{length}

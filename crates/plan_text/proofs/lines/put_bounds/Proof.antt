@@ -1,4 +1,4 @@
--- `put_bounds` puts one flow's line more each time round. Assumes nothing.
+-- Each turn puts the line of one flow more.
 use Prim.{tt}
 use mathlib.Core.Path.{_≡_, refl}
 use mathlib.Core.List.{_++_}
@@ -28,11 +28,13 @@ bounds-of-requires c κs = c .before .before .before .pre
 
 loop-again : tie.Need-loop-again Inv-loop μ-loop
 loop-again c =
-    let l = c .before .before .before .before .before .before .loop in
-    let s = c .before .before .before .before .before .before .before .before .args .s in
-    let e : boundLines (used s) (l .k) ++ boundText (l .k) (c .before .before .before .before .bounds-of .result) ≡ boundLines (used s) (l .k + 1) =
-    rw (c .before .before .before .before .bounds-of .ensures) (bounds-more (used s) (l .k)) in
-    putting-more _ _ _ _ _ _ _ (l .inv) _ _ _ (c .before .before .before .before .before .loop-test .taken) (omega arith) e (c .before .before .put-bound .ensures)
+    let b = c .before .before .before .before in
+    let test = b .before in
+    let l = test .before .loop in
+    let s = test .before .before .before .args .s in
+    let e : boundLines (used s) (l .k) ++ boundText (l .k) (b .bounds-of .result) ≡ boundLines (used s) (l .k + 1) =
+    rw (b .bounds-of .ensures) (bounds-more (used s) (l .k)) in
+    putting-more _ _ _ _ _ _ _ (l .inv) _ _ _ (test .loop-test .taken) (omega arith) e (c .before .before .put-bound .ensures)
 
 same-length : tie.Need-same-length Inv-loop μ-loop
 same-length c = c .before .loop .inv .long

@@ -1,4 +1,4 @@
--- `put_margin` goes by whether the bound is above the deadline. Assumes nothing.
+-- The margin is written by whether the bound is above the deadline.
 use Prim.Native.Nat.{_≤_}
 use native.Mathlib.Omega.{arith}
 use borrow.Author.Tests.{lt-ltb, le-ltb}

@@ -1,4 +1,4 @@
--- `put_plan` puts the verdict, the bounds and the run one after the other, within the longest plan. Assumes nothing.
+-- The verdict, the bounds and the run are put one after the other.
 use Prim.{tt}
 use mathlib.Core.Path.{_≡_, sym, ap, _∙_}
 use Prim.Native.Nat.{_≤_}
@@ -8,7 +8,6 @@ use Rattle.model.specs.Sets.{used}
 use Rattle.document.specs.Program.{planOf, verdictLine, boundLines}
 use Rattle.laws.specs.Used.{used-count}
 use Rattle.text.specs.Put.{put-put, put-same, lastPlace}
-use Rattle.plan_text.specs.PlanLength.{plan-le}
 use Rattle.plan_text.proofs.lines.put_plan.Statement.{statement}
 use Rattle.plan_text.proofs.lines.put_plan.Tie as tie
 
@@ -38,10 +37,8 @@ returns c =
     let h : length (o .args .out .now) ≤ lastPlace = omega arith in
     let v = put-same _ _ _ _ _ _ (ap verdictLine (verdict .before .before .verdict-of .ensures)) (verdict .put-verdict .ensures) in
     let e : boundLines (used s) (s .count) ≡ boundLines (used s) (used s .count) = ap (boundLines (used s)) (sym (used-count s)) in
-    let b = put-same _ _ _ _ _ _ e (bounds .put-bounds .ensures) in (
-      put-put _ _ _ _ _ _ _ _ h (put-put _ _ _ _ _ _ _ _ h v b) (c .before .before .put-run .ensures),
-      plan-le s (o .good .1 .0 .1 .1 .0 .1 .1 .0 .1) (o .pre),
-    )
+    let b = put-same _ _ _ _ _ _ e (bounds .put-bounds .ensures) in
+    put-put _ _ _ _ _ _ _ _ h (put-put _ _ _ _ _ _ _ _ h v b) (c .before .before .put-run .ensures)
 
 pub put-plan-spec : {M : Type 1} → statement M
 put-plan-spec =

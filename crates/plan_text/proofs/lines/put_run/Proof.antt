@@ -1,11 +1,9 @@
--- `put_run` puts one slot's lines more each time round. Assumes nothing.
+-- Each turn puts the lines of one slot more.
 use Prim.{tt}
 use mathlib.Core.Path.{_≡_, refl, ap, _∙_}
 use Prim.Native.Nat.{_-_, _<_}
 use native.Mathlib.Omega.{arith}
 use Rattle.model.specs.Sets.{used}
-use Rattle.model.specs.Refusals.{good}
-use Rattle.model.specs.declared.answers.Fault.{Fault}
 use Rattle.document.specs.Machine.{stepOf, runOf, runWith}
 use Rattle.document.specs.Program.{runLines}
 use Rattle.text.specs.Put.{Putting, putting-start, putting-more, putting-done}
@@ -25,7 +23,7 @@ unfolding runLines runWith
 loop-holds c = (c .fresh .ensures, putting-start _ _ _ _ refl (omega arith))
 
 step-accepted-requires : tie.Need-step-accepted-requires Inv-loop μ-loop
-step-accepted-requires c κs = ap (λ (f : Fault). good (f .refusal)) (c .before .before .before .before .pre)
+step-accepted-requires c κs = c .before .before .before .before .pre
 
 loop-again : tie.Need-loop-again Inv-loop μ-loop
 loop-again c =
@@ -38,7 +36,8 @@ loop-again c =
     let e : a .result ≡ stepOf (used s) (runOf (used s) (l .t) .last) = a .ensures ∙ ap (stepOf (used s)) (l .inv .0) in
     let m : s .map .0 < 65536 = o .good .1 .1 .0 .1 .1 .0 .1 .1 .0 .1 in
     let f = run-more s (l .t) (a .result) (o .pre) m (omega arith) e in
-    (run-last (used s) (l .t) (a .result) e, putting-more _ _ _ _ _ _ _ (l .inv .1) _ _ _ (test .loop-test .taken) (omega arith) f (c .before .before .before .put-sends .ensures))
+    let p = putting-more _ _ _ _ _ _ _ (l .inv .1) _ _ _ (test .loop-test .taken) (omega arith) f (c .before .before .before .put-sends .ensures) in
+    (run-last (used s) (l .t) (a .result) e, p)
 
 same-length : tie.Need-same-length Inv-loop μ-loop
 same-length c = c .before .loop .inv .1 .long

@@ -1,4 +1,4 @@
--- `put_too_long` puts the line of the refusal. Assumes nothing.
+-- The line is that of refusal 10.
 use Prim.{tt}
 use mathlib.Core.Path.{ap}
 use Rattle.document.specs.Program.{refusedLine}

@@ -1,4 +1,4 @@
--- `put_verdict` puts a line of the three numbers. Assumes nothing.
+-- The line has the two verdicts as 1 or 0, and the rounds.
 use mathlib.Core.Path.{ap₂}
 use mathlib.Core.List.{[], _∷_}
 use Prim.Native.Nat.{ℕ}
