@@ -21,13 +21,13 @@ cameOf (pos (suc k)) e = Bytes (suc k)
 cameOf (negsuc k) e = cond (interrupts e) Interrupted Broken
 
 -- the bytes that came are within the buffer, and at least one
-abbrev pub Within : Came → ℕ → Type 0
-Within (Bytes n) room = (0 < n) × (n ≤ room)
-Within End room = Unit {0}
-Within Interrupted room = Unit {0}
-Within Broken room = Unit {0}
+abbrev pub CameWithin : Came → ℕ → Type 0
+CameWithin (Bytes n) room = (0 < n) × (n ≤ room)
+CameWithin End room = Unit {0}
+CameWithin Interrupted room = Unit {0}
+CameWithin Broken room = Unit {0}
 
 -- an input that came whole is within the buffer
-abbrev pub Fits : Input → ℕ → Type 0
-Fits (Whole n) room = n ≤ room
-Fits Failed room = Unit {0}
+abbrev pub InputWithin : Input → ℕ → Type 0
+InputWithin (Whole n) room = n ≤ room
+InputWithin Failed room = Unit {0}

@@ -1,7 +1,7 @@
 // Standard input read to its end. A failed read is not the end: else the first lines of a set would be planned as if they were the set.
 ghost use mathlib.Core.Path.{_≡_};
 ghost use lib.ListN.{length};
-ghost use Rattle.plan.specs.Reads.{Within, cameOf, Fits};
+ghost use Rattle.plan.specs.Reads.{CameWithin, cameOf, InputWithin};
 use libc::STDIN_FILENO;
 
 // What one read did.
@@ -36,7 +36,7 @@ fn came_of(got: isize, error: i32) -> Came
 
 // One read into the buffer's start.
 fn read_some(buf: &mut [u8]) -> Came
-    ensures { λ r. ⌜ Within r (length (now (buf .entry))) ⌝ }
+    ensures { λ r. ⌜ CameWithin r (length (now (buf .entry))) ⌝ }
 {
     let got = libc::read(STDIN_FILENO, buf);
     came_of(got, os::errno())
@@ -45,7 +45,7 @@ fn read_some(buf: &mut [u8]) -> Came
 // Reads until the input ends or the buffer is full. A read that a signal interrupts is made again; any other failed read leaves no input,
 // one that would have to wait (EAGAIN) too.
 pub fn read_input(buf: &mut [u8]) -> Input
-    ensures { λ r. ⌜ Fits r (length (now (buf .exit))) ⌝ }
+    ensures { λ r. ⌜ InputWithin r (length (now (buf .exit))) ⌝ }
 {
     let mut done: usize = 0;
     let mut turns = u64::MAX;

@@ -6,7 +6,8 @@ use crate::input::read_input;
 use libc::STDERR_FILENO;
 use libc::STDOUT_FILENO;
 
-// Writes the plan of an input to standard output.
+// Writes the plan of an input to standard output. The buffer has room for every plan (`plan-fits`); if it had not, no plan would be printed, and
+// the program would say so.
 fn print_plan(input: &[u8]) {
     let mut out = [0u8; plan_text::MOST_PLAN];
     let w = plan_text::plan(input, &mut out);

@@ -6,12 +6,12 @@ use lib.ListN.{length}
 use borrow.Author.Needs.{needs}
 use Rattle.plan.specs.declared.input.Came.{Came}
 use Rattle.plan.specs.declared.input.Came.the-variants.{Bytes}
-use Rattle.plan.specs.Reads.{Within}
+use Rattle.plan.specs.Reads.{CameWithin}
 use Rattle.plan.proofs.input.read_input.Statement.{statement}
 use Rattle.plan.proofs.input.read_input.Tie as tie
 
-bytes-within : {w : Came} {n room : ℕ} → w ≡ Bytes n → Within w room → (0 < n) × (n ≤ room)
-bytes-within {w} {n} {room} e h = subst (λ (x : Came). Within x room) e h
+bytes-within : {w : Came} {n room : ℕ} → w ≡ Bytes n → CameWithin w room → (0 < n) × (n ≤ room)
+bytes-within {w} {n} {room} e h = subst (λ (x : Came). CameWithin x room) e h
 
 abbrev Inv-loop : tie.InvT-loop
 Inv-loop buf₀ done₀ turns₀ buf done turns = (done ≤ length buf) × (length buf ≡ length buf₀)

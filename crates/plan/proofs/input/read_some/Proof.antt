@@ -12,16 +12,16 @@ use borrow.Author.Needs.{needs}
 use Rattle.libc.specs.Io.{Moved}
 use Rattle.plan.specs.declared.input.Came.{Came}
 use Rattle.plan.specs.declared.input.Came.the-variants.{Interrupted, Broken}
-use Rattle.plan.specs.Reads.{Within, cameOf, interrupts}
+use Rattle.plan.specs.Reads.{CameWithin, cameOf, interrupts}
 use Rattle.plan.proofs.input.read_some.Statement.{statement}
 use Rattle.plan.proofs.input.read_some.Tie as tie
 
-within : (z e : ℤ) (room : ℕ) → Moved room z → Within (cameOf z e) room
+within : (z e : ℤ) (room : ℕ) → Moved room z → CameWithin (cameOf z e) room
 within (pos zero) e room h = tt
 within (pos (suc k)) e room h = (suc-le-suc zero-le, h)
 within (negsuc k) e room h = go (interrupts e)
   where
-    go : (b : Bool) → Within (cond b Interrupted Broken) room
+    go : (b : Bool) → CameWithin (cond b Interrupted Broken) room
     go true = tt
     go false = tt
 
@@ -33,7 +33,7 @@ returns c =
     let room = length (now (called .before .before .before .args .buf)) in
     let moved : Moved room (toZ w64 (ofZ w64 got)) = subst (Moved room) (sym back) (called .read .ensures) in
     let error = toZ w32 (ofZ w32 (c .before .errno .result)) in
-    subst (λ (w : Came). Within w room) (sym (c .came-of .ensures)) (within (toZ w64 (ofZ w64 got)) error room moved)
+    subst (λ (w : Came). CameWithin w room) (sym (c .came-of .ensures)) (within (toZ w64 (ofZ w64 got)) error room moved)
 
 pub read-some-spec : {M : Type 1} → statement M
 read-some-spec = tie.close (tie.spec (λ c κs. search needs) (λ c κs. search needs) (λ c κs. search needs) (λ c. search needs) returns)
