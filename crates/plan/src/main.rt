@@ -1,16 +1,31 @@
 // The plan program: a set on standard input, its plan on standard output. What fails is said on standard error.
 mod input;
 
+ghost use Prim.Native.Nat.{_≤_};
+ghost use mathlib.Core.Path.{_≡_};
+ghost use lib.ListN.{length, take};
+ghost use Rattle.document.specs.Reader.{wrote};
+ghost use Rattle.document.specs.Program.{planText};
+ghost use Rattle.plan_text.specs.PlanOfReading.{mostPlan};
 use crate::input::Input;
 use crate::input::read_input;
 use libc::STDERR_FILENO;
 use libc::STDOUT_FILENO;
+use model::Written;
 
-// Writes the plan of an input to standard output. The buffer has room for every plan (`plan-fits`); if it had not, no plan would be printed, and
-// the program would say so.
+// The plan of an input in a buffer that has room for every plan.
+fn whole_plan(input: &[u8], out: &mut [u8]) -> Written
+    requires { ⌜ mostPlan ≤ length (now out) ⌝ }
+    ensures { λ r. ⌜ r ≡ wrote (length (planText (now (input .entry)))) ⌝ }
+    ensures { λ r. ⌜ take (r .length) (now (out .exit)) ≡ planText (now (input .entry)) ⌝ }
+{
+    plan_text::plan(input, out)
+}
+
+// Writes the plan of an input to standard output. That the plan has room is proved; if it had not, the program would say so.
 fn print_plan(input: &[u8]) {
     let mut out = [0u8; plan_text::MOST_PLAN];
-    let w = plan_text::plan(input, &mut out);
+    let w = whole_plan(input, &mut out);
     let fault = w.fault;
     if fault.refuses() {
         io::write_all(STDERR_FILENO, b"plan: the plan is longer than its buffer\n");

@@ -3,30 +3,33 @@ use mathlib.Core.Path.{_≡_, sym, ap}
 use mathlib.Core.List.{List}
 use Prim.Native.Nat.{ℕ, _≤_}
 use native.Mathlib.Omega.{arith}
-use lib.ListN.{length, length-replicate, replicate}
+use lib.ListN.{length, length-replicate}
 use lib.Seq.{length-take-le}
 use Rattle.model.specs.declared.answers.Written.{Written}
-use Rattle.document.specs.Program.{planAnswer}
-use Rattle.plan_text.specs.PlanOfReading.{answer-le, mostPlan}
+use Rattle.document.specs.Reader.{wrote}
+use Rattle.document.specs.Program.{planText}
+use Rattle.plan_text.specs.PlanInBuffer.{text-le}
+use Rattle.plan_text.specs.PlanOfReading.{mostPlan}
 use borrow.Author.Needs.{needs}
 use Rattle.plan.proofs.print_plan.Statement.{statement}
 use Rattle.plan.proofs.print_plan.Tie as tie
 
-within : {w : Written} (input out : List ℕ) → w ≡ planAnswer input (length (replicate {A = ℕ} mostPlan 0)) → length out ≡ mostPlan
-    → w .length ≤ length out
+within : {w : Written} (input out : List ℕ) → w ≡ wrote (length (planText input)) → length out ≡ mostPlan → w .length ≤ length out
 within input out e h =
-    let a = answer-le input (length (replicate {A = ℕ} mostPlan 0)) in
     let b = ap (λ (x : Written). x .length) e in
-    omega (arith, length-replicate {A = ℕ} mostPlan 0, a, b, h)
+    omega (arith, text-le input, b, h)
+
+whole-plan-requires : tie.Need-whole-plan-requires
+whole-plan-requires c κs = omega (arith, length-replicate {A = ℕ} mostPlan 0)
 
 array-share-prefix-out : tie.Need-array-share-prefix-out
 array-share-prefix-out c =
-    let made = c .before .before .before .before .plan in
+    let made = c .before .before .before .before .whole-plan in
     within _ (made .last .1 .0) (made .ensures .0) (c .before .before .before .out2 .given)
 
 slice-aggregate-write-all-2 : tie.Need-slice-aggregate-write-all-2
 slice-aggregate-write-all-2 c =
-    let made = c .before .before .before .before .before .plan in
+    let made = c .before .before .before .before .before .whole-plan in
     sym (length-take-le _ (made .last .1 .0) (within _ (made .last .1 .0) (made .ensures .0) (c .before .before .before .before .out2 .given)))
 
 pub print-plan-spec : {M : Type 1} → statement M
@@ -34,7 +37,7 @@ print-plan-spec =
     tie.close
     (tie.spec
     (λ c. search needs)
-    (λ c κs. search needs)
+    whole-plan-requires
     (λ c κs. search needs)
     (λ c. search needs)
     (λ c κs. search needs)
