@@ -39,7 +39,16 @@ pub fn fault(flow: &Flow) -> u8 {
     }
 }
 
-/// Whether a node stands twice in a route.
+/// Whether a node stands twice in a route. A node's mark is its place among 64; the nodes before it are searched only
+/// where one of them has the same mark.
 fn twice(route: &[u16]) -> bool {
-    (1..route.len()).any(|i| route[..i].contains(&route[i]))
+    let mut marks = 0u64;
+    for (i, node) in route.iter().enumerate() {
+        let mark = 1 << (node % 64);
+        if marks & mark != 0 && route[..i].contains(node) {
+            return true;
+        }
+        marks |= mark;
+    }
+    false
 }

@@ -106,19 +106,26 @@ impl Delays {
 }
 
 /// What one flow k knows of every other flow l. The entry of k itself, and those beyond the last flow, are 0, so
-/// sums over all 64 places are sums over the others.
+/// sums over more places than there are flows are sums over the others.
+#[derive(Clone)]
 pub(crate) struct Others {
-    /// q: the quotient of D of k by T of l.
-    pub(crate) quotient: [u16; MOST_FLOWS],
-    /// r: the remainder.
+    /// r: the remainder of D of k by T of l.
     pub(crate) remainder: [u16; MOST_FLOWS],
     /// S.
     pub(crate) s: [u16; MOST_FLOWS],
-    /// Σ q·C of l, which no list changes.
+    /// Σ q·C of l, with q the quotient of D of k by T of l, which no list changes.
     whole: u32,
     /// Σ q·S, which no list changes.
     conflict: u32,
 }
+
+impl Others {
+    /// No other flow.
+    const NONE: Others = Others { remainder: [0; MOST_FLOWS], s: [0; MOST_FLOWS], whole: 0, conflict: 0 };
+}
+
+/// Up to here sums go over this many places, beyond it over all 64: a fixed number of places is added eight at a time.
+const FEW: usize = 16;
 
 /// A planner by document 01's rules.
 pub type Planner = PlannerWith<{ slip::NONE }>;
@@ -129,6 +136,7 @@ pub struct PlannerWith<const SLIP: u8> {
     pub(crate) m: u32,
     pub(crate) c: [u16; MOST_FLOWS],
     pub(crate) deadline: [u16; MOST_FLOWS],
+    period: [u16; MOST_FLOWS],
     pub(crate) others: Vec<Others>,
 }
 
@@ -139,18 +147,49 @@ impl<const SLIP: u8> PlannerWith<SLIP> {
         if refusal.refuses() {
             return Err(refusal);
         }
+        Ok(Self::prepared(set))
+    }
+
+    /// Prepares a set that is known to be good, so that one that was just read is not checked a second time.
+    pub(crate) fn prepared(set: &Set) -> Self {
         let flows = set.used();
-        let (mut c, mut deadline) = ([0; MOST_FLOWS], [0; MOST_FLOWS]);
+        let (mut c, mut deadline, mut period) = ([0; MOST_FLOWS], [0; MOST_FLOWS], [0; MOST_FLOWS]);
         for (k, flow) in flows.iter().enumerate() {
-            c[k] = flow.c() as u16;
-            deadline[k] = flow.deadline;
+            (c[k], deadline[k], period[k]) = (flow.c() as u16, flow.deadline, flow.period);
         }
-        let mut s = conflicts(flows);
+        let others = vec![Others::NONE; flows.len()];
+        let mut planner = PlannerWith { count: flows.len(), m: set.m(), c, deadline, period, others };
         if SLIP == slip::COMMON_LINKS {
-            s = slip::common_links(flows);
+            slip::common_links(flows, &mut planner.others);
+        } else if flows.len() > 1 {
+            conflicts(flows, &mut planner.others);
         }
-        let others = s.into_iter().enumerate().map(|(k, s)| others(flows, k, s)).collect();
-        Ok(PlannerWith { count: flows.len(), m: set.m(), c, deadline, others })
+        planner.windows();
+        planner
+    }
+
+    /// q and r of every pair, and the parts of the sums that no list changes. A number of 16 bits times 2³²/T rounded
+    /// up, without the product's lowest 32 bits, is its quotient by T, so there is one division for each flow and not
+    /// for each pair.
+    fn windows(&mut self) {
+        let mut inverse = [0; MOST_FLOWS];
+        for (inverse, &period) in inverse.iter_mut().zip(&self.period[..self.count]) {
+            *inverse = (1u64 << 32).div_ceil(u64::from(period));
+        }
+        for (k, other) in self.others.iter_mut().enumerate() {
+            let deadline = u32::from(self.deadline[k]);
+            for l in (0..self.count).filter(|&l| l != k) {
+                let q = ((u64::from(deadline) * inverse[l]) >> 32) as u32;
+                other.remainder[l] = (deadline - q * u32::from(self.period[l])) as u16;
+                other.whole += q * u32::from(self.c[l]);
+                other.conflict += q * u32::from(other.s[l]);
+            }
+        }
+    }
+
+    /// q: the quotient of D of k by T of l.
+    pub(crate) fn quotient(&self, k: usize, l: usize) -> u32 {
+        u32::from(self.deadline[k] / self.period[l])
     }
 
     /// S of the flows k and l ≠ k: κ of l times the number of l's links that have an end on k's route. 0 for k = l.
@@ -163,39 +202,46 @@ impl<const SLIP: u8> PlannerWith<SLIP> {
     /// with its deadline for `v` they are the basic shares.
     pub fn shares(&self, k: usize, l: usize, v: u16) -> (u32, u32) {
         let other = &self.others[k];
-        let (q, c, s) = (u32::from(other.quotient[l]), u32::from(self.c[l]), u32::from(other.s[l]));
+        let (q, c, s) = (self.quotient(k, l), u32::from(self.c[l]), u32::from(other.s[l]));
         let rest = u32::from(other.remainder[l].saturating_sub(self.deadline[l].saturating_sub(v)));
         (q * c + c.min(rest), q * s + s.min(rest))
     }
 
     /// The equation's value of flow k at a list: C of k + ΣX + (ΣW − ΣX) / m. Both sums' changing parts fit 16 bits
-    /// (64 flows of C at most 64), which lets eight places be added at a time.
+    /// (64 flows of C at most 64).
     pub fn value(&self, k: usize, v: &[u16; MOST_FLOWS]) -> u32 {
         if slip::changes_value(SLIP) {
             return slip::value(self, k, &v.map(i64::from));
         }
         let other = &self.others[k];
-        let (mut w, mut x) = (0u16, 0u16);
-        for (l, &entry) in v.iter().enumerate() {
-            let rest = other.remainder[l].saturating_sub(self.deadline[l].saturating_sub(entry));
+        let (w, x) = if self.count <= FEW { self.sums::<FEW>(other, v) } else { self.sums::<MOST_FLOWS>(other, v) };
+        let (w, x) = (other.whole + u32::from(w), other.conflict + u32::from(x));
+        u32::from(self.c[k]) + x + (w - x) / self.m
+    }
+
+    /// The parts of ΣW and ΣX that a list changes, over the first places.
+    fn sums<const PLACES: usize>(&self, other: &Others, v: &[u16; MOST_FLOWS]) -> (u16, u16) {
+        let (mut w, mut x) = (0, 0);
+        for l in 0..PLACES {
+            let rest = other.remainder[l].saturating_sub(self.deadline[l].saturating_sub(v[l]));
             w += rest.min(self.c[l]);
             x += rest.min(other.s[l]);
         }
-        let (w, x) = (other.whole + u32::from(w), other.conflict + u32::from(x));
-        u32::from(self.c[k]) + x + (w - x) / self.m
+        (w, x)
     }
 
     /// One round: through the flows in order, each entry replaced by the smaller of itself and the equation's value,
     /// new entries used at once. Answers whether anything changed.
     pub fn round(&self, v: &mut [u16; MOST_FLOWS]) -> bool {
-        let before = *v;
+        let (before, mut changed) = (*v, false);
         for k in 0..self.count {
             let value = self.value(k, if SLIP == slip::OLD_ENTRIES { &before } else { v });
             if value < u32::from(v[k]) {
                 v[k] = value as u16;
+                changed = true;
             }
         }
-        *v != before
+        changed
     }
 
     /// Both tests: the basic bounds, the rounds from v = D until the first that changes nothing, and the values at
@@ -227,53 +273,57 @@ impl<const SLIP: u8> PlannerWith<SLIP> {
     }
 }
 
-/// q and r of one flow against every other, and the parts of the sums that no list changes.
-fn others(flows: &[Flow], k: usize, s: [u16; MOST_FLOWS]) -> Others {
-    let mut other = Others { quotient: [0; MOST_FLOWS], remainder: [0; MOST_FLOWS], s, whole: 0, conflict: 0 };
-    for (l, flow) in flows.iter().enumerate().filter(|&(l, _)| l != k) {
-        let q = flows[k].deadline / flow.period;
-        other.quotient[l] = q;
-        other.remainder[l] = flows[k].deadline % flow.period;
-        other.whole += u32::from(q) * flow.c();
-        other.conflict += u32::from(q) * u32::from(s[l]);
-    }
-    other
-}
-
-/// S of every pair, `s[k][l]`. Each node has one bit for each flow whose route it is on; the bits of a link's two
-/// ends together are the flows that the link counts for, so a route is searched once and not once for each flow.
-fn conflicts(flows: &[Flow]) -> Vec<[u16; MOST_FLOWS]> {
-    let mut s = vec![[0; MOST_FLOWS]; flows.len()];
-    let users = users(flows);
+/// S of every pair: `others[k].s[l]`. The flows that a link counts for are those whose routes have one of its two ends,
+/// so each route is searched once and not once for each flow.
+fn conflicts(flows: &[Flow], others: &mut [Others]) {
+    let mut users = Users::room(flows);
+    let places: Vec<_> = flows.iter().enumerate().map(|(k, flow)| users.enter(k, flow)).collect();
     for (l, flow) in flows.iter().enumerate() {
-        let mut on = [0u64; MOST_NODES];
-        for (bits, &node) in on.iter_mut().zip(flow.used()) {
-            *bits = users[users.partition_point(|user| user.0 < node)].1;
-        }
-        for ends in on[..flow.used().len()].windows(2) {
-            let mut touched = (ends[0] | ends[1]) & !(1 << l);
+        for ends in places[l][..flow.used().len()].windows(2) {
+            let mut touched = (users.bits[ends[0]] | users.bits[ends[1]]) & !(1 << l);
             while touched != 0 {
-                s[touched.trailing_zeros() as usize][l] += flow.tries;
+                others[touched.trailing_zeros() as usize].s[l] += flow.tries;
                 touched &= touched - 1;
             }
         }
     }
-    s
 }
 
-/// Every node in rising order, with one bit for each flow whose route it is on.
-fn users(flows: &[Flow]) -> Vec<(u16, u64)> {
-    let mut all: Vec<(u16, u64)> = Vec::with_capacity(MOST_NODES * flows.len());
-    for (k, flow) in flows.iter().enumerate() {
-        all.extend(flow.used().iter().map(|&node| (node, 1 << k)));
+/// Every node of a set, with one bit for each flow whose route it is on. A node stands at the place that its number
+/// leads to, or where that is another node's at the next free one; at least half of the places stay free.
+struct Users {
+    nodes: Vec<u16>,
+    /// 0 at a free place.
+    bits: Vec<u64>,
+    /// How many of 32 bits a place has not.
+    shift: u32,
+}
+
+impl Users {
+    /// Room for the nodes of these flows.
+    fn room(flows: &[Flow]) -> Users {
+        let nodes: usize = flows.iter().map(|flow| flow.used().len()).sum();
+        let places = (2 * nodes).next_power_of_two();
+        Users { nodes: vec![0; places], bits: vec![0; places], shift: 32 - places.ilog2() }
     }
-    all.sort_unstable_by_key(|user| user.0);
-    all.dedup_by(|later, first| {
-        let equal = later.0 == first.0;
-        if equal {
-            first.1 |= later.1;
+
+    /// Enters the route of flow k, and answers the place of each of its nodes.
+    fn enter(&mut self, k: usize, flow: &Flow) -> [usize; MOST_NODES] {
+        let mut places = [0; MOST_NODES];
+        for (place, &node) in places.iter_mut().zip(flow.used()) {
+            *place = self.place(node);
+            self.nodes[*place] = node;
+            self.bits[*place] |= 1 << k;
         }
-        equal
-    });
-    all
+        places
+    }
+
+    /// Where a node stands, or would.
+    fn place(&self, node: u16) -> usize {
+        let mut at = (u32::from(node).wrapping_mul(0x9e37_79b1) >> self.shift) as usize;
+        while self.bits[at] != 0 && self.nodes[at] != node {
+            at = (at + 1) % self.nodes.len();
+        }
+        at
+    }
 }

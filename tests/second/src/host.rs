@@ -1,7 +1,7 @@
 //! Document 01, "What is planned, and from what": what the manager's host program in C calls, with the set as text.
 //! The text is read before anything else is tested, with the reader's refusals.
 
-use crate::delay::{bound, verdict, Bound, Verdict};
+use crate::delay::{Bound, Planner, Verdict};
 use crate::machine::{Machine, Slot};
 use crate::read::read;
 use crate::record::{Refusal, State, MOST_FLOWS};
@@ -16,7 +16,7 @@ pub fn verdict_of_text(text: &[u8]) -> Verdict {
     if read.refusal.refuses() {
         return Verdict { refusal: read.refusal, ..Verdict::default() };
     }
-    verdict(&read.set)
+    Planner::prepared(&read.set).delays().verdict()
 }
 
 /// The bounds of the flow of that number in a text.
@@ -25,7 +25,7 @@ pub fn bound_of_text(text: &[u8], flow: u32) -> Bound {
     if read.refusal.refuses() {
         return Bound { refusal: read.refusal, ..Bound::default() };
     }
-    bound(&read.set, flow)
+    Planner::prepared(&read.set).delays().bound(flow)
 }
 
 /// The C step: writes the next state into the 68 bytes and the slot's `send` lines into the second buffer, whose
@@ -33,20 +33,14 @@ pub fn bound_of_text(text: &[u8], flow: u32) -> Bound {
 /// refused, it leaves both buffers alone.
 pub fn step_of_text(text: &[u8], state: &mut [u8], buffer: &mut [u8]) -> Written {
     let read = read(text);
-    let mut machine = match Machine::new(&read.set) {
-        Ok(machine) if !read.refusal.refuses() => machine,
-        _ => return Written { refusal: read.refusal, bytes: 0 },
-    };
-    step_of_bytes(&mut machine, state, buffer)
-}
-
-/// The C step once the text is read: 12, 11, 10, and only then the two buffers.
-fn step_of_bytes(machine: &mut Machine, state: &mut [u8], buffer: &mut [u8]) -> Written {
+    if read.refusal.refuses() {
+        return Written { refusal: read.refusal, bytes: 0 };
+    }
     let Some(mut next) = state_of_bytes(state) else {
         return Written { refusal: Refusal::at(12, 0), bytes: 0 };
     };
     let (t, mut slot) = (next.slot, Slot::default());
-    let refusal = machine.step(&mut next, &mut slot);
+    let refusal = Machine::prepared(&read.set, t).step(&mut next, &mut slot);
     if refusal.refuses() {
         return Written { refusal, bytes: 0 };
     }

@@ -22,7 +22,7 @@ pub fn plan(input: &[u8]) -> Vec<u8> {
     if read.refusal.refuses() {
         return refused(read.refusal);
     }
-    plan_of(&read.set).unwrap_or_else(refused)
+    plan_of(&read.set)
 }
 
 /// The line of a refusal: `refused`, number, line.
@@ -32,13 +32,13 @@ fn refused(refusal: Refusal) -> Vec<u8> {
     text
 }
 
-/// The plan of a set.
-fn plan_of(set: &Set) -> Result<Vec<u8>, Refusal> {
-    let delays = Planner::new(set)?.delays();
-    let mut machine = Machine::new(set)?;
-    Ok(print(&delays, |state, slot| {
+/// The plan of a set that was read.
+fn plan_of(set: &Set) -> Vec<u8> {
+    let delays = Planner::prepared(set).delays();
+    let mut machine = Machine::prepared(set, 0);
+    print(&delays, |state, slot| {
         machine.step(state, slot);
-    }))
+    })
 }
 
 /// The text of a plan, from what the tests found out and a machine's step.

@@ -17,11 +17,11 @@ pub struct Read {
 
 /// The reader: the first faulty line decides, and within it the lowest of 1 to 9 that applies.
 pub fn read(text: &[u8]) -> Read {
-    let mut set = Set::BLANK;
-    match fill(text, &mut set) {
-        Ok(()) => Read { refusal: Refusal::NONE, set },
-        Err(refusal) => Read { refusal, set: Set::BLANK },
+    let mut read = Read { refusal: Refusal::NONE, set: Set::BLANK };
+    if let Err(refusal) = fill(text, &mut read.set) {
+        read = Read { refusal, set: Set::BLANK };
     }
+    read
 }
 
 /// Reads line by line into the set; what stands after a faulty line is never looked at.

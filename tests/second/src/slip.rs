@@ -2,7 +2,7 @@
 //! says "this paper decides". A slip is a constant of the types [`PlannerWith`] and
 //! [`MachineWith`](crate::machine::MachineWith), so the right rules ([`NONE`]) pay nothing for them.
 
-use crate::delay::PlannerWith;
+use crate::delay::{Others, PlannerWith};
 use crate::record::{Flow, MOST_FLOWS};
 
 /// No slip: document 01's rules.
@@ -43,9 +43,9 @@ pub(crate) const fn changes_value(slip: u8) -> bool {
 pub(crate) fn value<const SLIP: u8>(planner: &PlannerWith<SLIP>, k: usize, v: &[i64; MOST_FLOWS]) -> u32 {
     let (other, m) = (&planner.others[k], i64::from(planner.m));
     let (mut x, mut contention) = (0, 0);
-    for (l, entry) in v.iter().enumerate() {
+    for (l, entry) in v.iter().enumerate().take(planner.count).filter(|&(l, _)| l != k) {
         let (c, s) = (i64::from(planner.c[l]), i64::from(other.s[l]));
-        let (mut q, mut r) = (i64::from(other.quotient[l]), i64::from(other.remainder[l]));
+        let (mut q, mut r) = (i64::from(planner.quotient(k, l)), i64::from(other.remainder[l]));
         match SLIP {
             PACKET_TOO_FEW if r == 0 => q = (q - 1).max(0),
             SHORT_WINDOW if r == 0 && q > 0 => (q, r) = (q - 1, i64::from(planner.deadline[k]) / q - 1),
@@ -79,14 +79,12 @@ pub(crate) fn admitted<const SLIP: u8>(planner: &PlannerWith<SLIP>, v: &[u16; MO
 }
 
 /// S of every pair, counting only links that both routes have.
-pub(crate) fn common_links(flows: &[Flow]) -> Vec<[u16; MOST_FLOWS]> {
+pub(crate) fn common_links(flows: &[Flow], others: &mut [Others]) {
     let has = |flow: &Flow, link: &[u16]| flow.used().windows(2).any(|own| own == link || own == [link[1], link[0]]);
-    let mut s = vec![[0; MOST_FLOWS]; flows.len()];
-    for (k, row) in s.iter_mut().enumerate() {
+    for (k, other) in others.iter_mut().enumerate() {
         for (l, flow) in flows.iter().enumerate().filter(|&(l, _)| l != k) {
             let common = flow.used().windows(2).filter(|link| has(&flows[k], link)).count();
-            row[l] = flow.tries * common as u16;
+            other.s[l] = flow.tries * common as u16;
         }
     }
-    s
 }

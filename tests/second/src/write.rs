@@ -35,7 +35,7 @@ pub fn lend(text: &[u8], buffer: &mut [u8]) -> Written {
 
 /// The text of a good record, used entries only.
 pub fn text_of(set: &Set) -> Vec<u8> {
-    let mut text = Vec::with_capacity(10 + 127 * set.used().len());
+    let mut text = Vec::with_capacity(10 + 127 * set.used().len() + BLOCK);
     put_line(&mut text, b"set", &[i64::from(set.map)]);
     for flow in set.used() {
         text.extend_from_slice(b"flow");
@@ -56,22 +56,42 @@ pub fn put_line(text: &mut Vec<u8>, word: &[u8], numbers: &[i64]) {
     text.push(b'\n');
 }
 
-/// A tab and a number in decimal, a negative one with a leading `-`.
+/// How many bytes a field is made in: a tab, a sign and the digits of any number fit.
+const BLOCK: usize = 24;
+
+/// The two digits of each number below 100.
+const PAIRS: [[u8; 2]; 100] = {
+    let mut pairs = [[0; 2]; 100];
+    let mut number = 0;
+    while number < 100 {
+        pairs[number] = [b'0' + number as u8 / 10, b'0' + number as u8 % 10];
+        number += 1;
+    }
+    pairs
+};
+
+/// A tab and a number in decimal, a negative one with a leading `-`. The field is made in a block that always has the
+/// same length, two digits at a time from the last, and the block's rest is cut off the text again: that is quicker
+/// than to append a few bytes.
 fn put_field(text: &mut Vec<u8>, number: i64) {
-    text.push(b'\t');
+    let mut block = [b'\t'; BLOCK];
+    let mut first = 1;
     if number < 0 {
-        text.push(b'-');
+        block[first] = b'-';
+        first += 1;
     }
     let mut rest = number.unsigned_abs();
-    let mut digits = [0u8; 20];
-    let mut first = digits.len();
-    loop {
-        first -= 1;
-        digits[first] = b'0' + (rest % 10) as u8;
-        rest /= 10;
-        if rest == 0 {
-            break;
-        }
+    let end = first + rest.max(1).ilog10() as usize + 1;
+    let mut at = end;
+    while rest >= 10 {
+        at -= 2;
+        block[at..at + 2].copy_from_slice(&PAIRS[(rest % 100) as usize]);
+        rest /= 100;
     }
-    text.extend_from_slice(&digits[first..]);
+    if at > first {
+        block[first] = b'0' + rest as u8;
+    }
+    let length = text.len() + end;
+    text.extend_from_slice(&block);
+    text.truncate(length);
 }
