@@ -126,6 +126,8 @@ extern "C" {
     // include/rembasuk.h: its answers begin with the refusal and the line, as a fault does.
     fn rembasuk_verdict(text: *const u8, length: usize) -> Verdict;
     fn rembasuk_bounds(text: *const u8, length: usize, flow: u32) -> Bounds;
+    #[cfg(all_bounds)]
+    fn rembasuk_all_bounds(text: *const u8, length: usize, table: *mut u32, room: usize) -> Written;
     fn rembasuk_slot(text: *const u8, length: usize, state: *mut u8, state_length: usize, lines: *mut u8, lines_length: usize) -> Written;
 }
 
@@ -175,6 +177,12 @@ impl Record {
                 && a.delivered[a.deliveries.into()..].iter().all(|x| x.flow == 0 && x.delay == 0)
                 && a.dropped[a.drops.into()..].iter().all(|x| *x == 0),
         }
+    }
+
+    /// A step alone, for measuring: the next state and how many sends, its lists not taken apart.
+    pub fn step_only(&self, st: &State) -> (State, u16) {
+        let a = unsafe { probe_step(self.0, RawState { slot: st.slot, sent: st.sent }) };
+        (state(&a.next), a.sends)
     }
 
     /// A run from the fresh state.
@@ -242,6 +250,12 @@ pub fn text_verdict(text: &[u8]) -> Verdict {
 /// What C is told of a text: one flow's bounds.
 pub fn text_bounds(text: &[u8], flow: u32) -> Bounds {
     unsafe { rembasuk_bounds(text.as_ptr(), text.len(), flow) }
+}
+
+/// What C is told of a text: C, basic bound, tightened bound and deadline of every flow, in a table of 32-bit numbers.
+#[cfg(all_bounds)]
+pub fn text_all_bounds(text: &[u8], table: &mut [u32]) -> Written {
+    unsafe { rembasuk_all_bounds(text.as_ptr(), text.len(), table.as_mut_ptr(), table.len()) }
 }
 
 /// C's step over a text: the next state and the slot's lines.

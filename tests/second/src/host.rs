@@ -28,6 +28,27 @@ pub fn bound_of_text(text: &[u8], flow: u32) -> Bound {
     Planner::prepared(&read.set).delays().bound(flow)
 }
 
+/// How many numbers a flow has in a table of all bounds: C, basic bound, tightened bound, deadline.
+pub const TABLE_ROW: usize = 4;
+
+/// The bounds of all flows of a text, four numbers a flow at the head of a lent table, whose further ones stay. Refusals:
+/// the text's, then 10 where the table is too short; refused, it leaves the table alone. Answers how many numbers it
+/// wrote.
+pub fn all_bounds_of_text(text: &[u8], table: &mut [u32]) -> (Refusal, usize) {
+    let read = read(text);
+    if read.refusal.refuses() {
+        return (read.refusal, 0);
+    }
+    let delays = Planner::prepared(&read.set).delays();
+    let Some(table) = table.get_mut(..TABLE_ROW * delays.count) else {
+        return (Refusal::at(10, 0), 0);
+    };
+    for (k, row) in table.chunks_exact_mut(TABLE_ROW).enumerate() {
+        row.copy_from_slice(&[delays.c[k].into(), delays.basic[k], delays.tightened[k], delays.deadline[k].into()]);
+    }
+    (Refusal::NONE, table.len())
+}
+
 /// The C step: writes the next state into the 68 bytes and the slot's `send` lines into the second buffer, whose
 /// further bytes stay. Refusals in document 01's order: the text's, 12 (also for a length other than 68), 11, 10;
 /// refused, it leaves both buffers alone.
@@ -36,11 +57,17 @@ pub fn step_of_text(text: &[u8], state: &mut [u8], buffer: &mut [u8]) -> Written
     if read.refusal.refuses() {
         return Written { refusal: read.refusal, bytes: 0 };
     }
+    let t = state_of_bytes(state).map_or(0, |state| state.slot);
+    step_of_bytes(&mut Machine::prepared(&read.set, t), state, buffer)
+}
+
+/// The C step of a machine that was prepared before: 12, 11, 10, and only then the two buffers.
+pub fn step_of_bytes(machine: &mut Machine, state: &mut [u8], buffer: &mut [u8]) -> Written {
     let Some(mut next) = state_of_bytes(state) else {
         return Written { refusal: Refusal::at(12, 0), bytes: 0 };
     };
     let (t, mut slot) = (next.slot, Slot::default());
-    let refusal = Machine::prepared(&read.set, t).step(&mut next, &mut slot);
+    let refusal = machine.step(&mut next, &mut slot);
     if refusal.refuses() {
         return Written { refusal, bytes: 0 };
     }

@@ -1,91 +1,372 @@
-//! One table: the proved planner beside the second one, same input, same run, both built for release. The order alternates, the best of
-//! several rounds counts, and buffers are cleared before the first call only.
+//! One table: the proved planner beside the second one, the same input in the same process, both built for release, by processor time.
+//! `bench [RUNS]` goes through all rows that often (default 5). In a run the two take turns, and a row's figures are medians of the turns; the
+//! table has the medians of the runs, and the lowest and the highest ratio of a run. Before anything is measured the answers are compared.
+//! Rows are what C calls unless they say otherwise; both sides start from the same text, and a row that is not like with like says so.
 
 use compare::Record;
+use second::host::{all_bounds_of_text, bound_of_text, bytes_of_state, step_of_bytes, step_of_text, verdict_of_text};
 use second::inputs::{ring64, sets, Rng};
 use second::write::text_of;
 use second::{Machine, Set, Slot, State};
+use std::fs::File;
 use std::hint::black_box;
-use std::time::Instant;
+use std::path::{Path, PathBuf};
+use std::process::{Command, Stdio};
 
-fn main() {
-    println!("{:<44}{:>14}{:>14}{:>8}", "", "proved, ns", "second, ns", "ratio");
-    let long = longest();
-    let text = text_of(&long);
-    let record = Record::new(&long);
-    let (mut ours, mut theirs) = (vec![0u8; 8200], vec![0u8; 8200]);
-    row(&format!("reading {} bytes", text.len()), 200, || compare::read_only(black_box(&text)), || second::read(black_box(&text)).set.count);
-    row("writing them", 200, || record.write(black_box(&mut ours)).length, || second::write(&long, black_box(&mut theirs)).bytes);
-    for n in [1, 8, 64] {
-        let mut set = sets::full(&mut Rng::new(1));
-        set.count = n;
-        verdict(&format!("verdict of {n} flows of 17 nodes"), 50, &set);
-    }
-    let ring = ring64();
-    verdict(&format!("verdict of the ring, {} rounds", second::verdict(&ring).rounds), 3, &ring);
-    for (name, set) in [("6 % of the slots busy", sets::spread(1024, 16)), ("64 flows of 17 nodes", sets::full(&mut Rng::new(1))), ("16 sends a slot", sets::busy())] {
-        slots(&format!("a slot of 64 flows, {name}"), &set);
-    }
-    let set = sets::spread(1024, 16);
-    let record = Record::new(&set);
-    let st = State { slot: 70_001, ..State::FRESH };
-    row("a step with its record check", 500, || record.step(black_box(&st)).sends.len(), || second::step(black_box(&set), &st).slot.sends.len());
+/// Turns of a run, and how long one takes, in nanoseconds.
+const TURNS: usize = 25;
+const TURN: f64 = 5e5;
+/// Slots that a row of single slots goes through, from a slot where every flow has started.
+const SLOTS: u32 = 256;
+const STARTED: u32 = 70_000;
+/// Slots of a run.
+const RUN: u32 = 65_536;
+
+/// One side of a row: does the work once and answers a number that both sides must have in common.
+type Work<'a> = Box<dyn FnMut() -> u64 + 'a>;
+
+/// A line of the table.
+struct Row<'a> {
+    name: String,
+    clock: fn() -> f64,
+    /// How many calls or slots the work is.
+    per: u32,
+    proved: Work<'a>,
+    second: Work<'a>,
+    /// A run's time of each and their ratio.
+    runs: Vec<[f64; 3]>,
 }
 
-/// The best time of each, in nanoseconds a call.
-fn row<A, B>(name: &str, calls: u32, mut proved: impl FnMut() -> A, mut other: impl FnMut() -> B) {
-    let (mut a, mut b) = (f64::INFINITY, f64::INFINITY);
-    for _ in 0..9 {
-        a = a.min(time(calls, &mut proved));
-        b = b.min(time(calls, &mut other));
+impl<'a> Row<'a> {
+    fn new(name: impl Into<String>, proved: impl FnMut() -> u64 + 'a, second: impl FnMut() -> u64 + 'a) -> Row<'a> {
+        let (proved, second): (Work, Work) = (Box::new(proved), Box::new(second));
+        Row { name: name.into(), clock: own, per: 1, proved, second, runs: Vec::new() }
     }
-    println!("{name:<44}{a:>14.1}{b:>14.1}{:>8.2}", a / b);
-}
 
-fn time<T>(calls: u32, call: &mut impl FnMut() -> T) -> f64 {
-    let start = Instant::now();
-    for _ in 0..calls {
-        black_box(call());
+    /// The same where the work is so many calls or slots.
+    fn per(mut self, per: u32) -> Row<'a> {
+        self.per = per;
+        self
     }
-    start.elapsed().as_secs_f64() * 1e9 / f64::from(calls)
-}
 
-fn verdict(name: &str, calls: u32, set: &Set) {
-    let record = Record::new(set);
-    row(name, calls, || black_box(&record).verdict().rounds, || second::verdict(black_box(set)).rounds);
-}
-
-/// A hyper-period of 65,536 slots from the fresh state, per slot.
-fn slots(name: &str, set: &Set) {
-    const SLOTS: u32 = 65_536;
-    let record = Record::new(set);
-    let Ok(mut machine) = Machine::new(set) else { return };
-    let mut slot = Slot::new();
-    let (mut a, mut b) = (f64::INFINITY, f64::INFINITY);
-    for _ in 0..5 {
-        a = a.min(time(1, &mut || black_box(&record).run(SLOTS).delivered) / f64::from(SLOTS));
-        let mut run = || {
-            let (mut st, mut delivered) = (State::FRESH, 0);
-            for _ in 0..SLOTS {
-                machine.step(&mut st, &mut slot);
-                delivered += slot.delivered.len();
-            }
-            delivered
-        };
-        b = b.min(time(1, &mut run) / f64::from(SLOTS));
-    }
-    println!("{name:<44}{a:>14.1}{b:>14.1}{:>8.2}", a / b);
-}
-
-/// The longest accepted text: every number as long as it can be.
-fn longest() -> Set {
-    let mut set = sets::full(&mut Rng::new(1));
-    set.map = 65_535;
-    for flow in &mut set.flows {
-        (flow.period, flow.deadline, flow.start, flow.tries, flow.nodes) = (65_535, 65_535, 65_535, 4, 17);
-        for (i, node) in flow.route.iter_mut().enumerate() {
-            *node = 65_535 - i as u16;
+    /// Ends the program where the two sides' answers differ.
+    fn compare(&mut self) {
+        let (proved, second) = ((self.proved)(), (self.second)());
+        if proved != second {
+            println!("{}: the answers differ: {proved} and {second}", self.name);
+            std::process::exit(1);
         }
     }
-    set
+
+    /// One run: the two take turns, each first as often as the other.
+    fn run(&mut self) {
+        let calls = [calls(self.clock, &mut self.proved), calls(self.clock, &mut self.second)];
+        let (mut proved, mut second, mut ratio) = (Vec::new(), Vec::new(), Vec::new());
+        for turn in 0..TURNS {
+            let mut took = [0.0; 2];
+            for side in [turn % 2, 1 - turn % 2] {
+                let work = if side == 0 { &mut self.proved } else { &mut self.second };
+                took[side] = time(self.clock, calls[side], work) / f64::from(self.per);
+            }
+            proved.push(took[0]);
+            second.push(took[1]);
+            ratio.push(took[0] / took[1]);
+        }
+        self.runs.push([middle(proved), middle(second), middle(ratio)]);
+    }
+
+    fn print(&self) {
+        let column = |i: usize| self.runs.iter().map(|run| run[i]).collect::<Vec<_>>();
+        let (lowest, highest) = column(2).iter().fold((f64::INFINITY, 0f64), |(low, high), r| (low.min(*r), high.max(*r)));
+        let [proved, second] = [0, 1].map(|i| shown(middle(column(i))));
+        println!("| {} | {proved} | {second} | {:.2} | {lowest:.2} to {highest:.2} |", self.name, middle(column(2)));
+    }
+}
+
+/// The median.
+fn middle(mut values: Vec<f64>) -> f64 {
+    values.sort_by(f64::total_cmp);
+    values[values.len() / 2]
+}
+
+/// Nanoseconds with a comma after the thousands, below a hundred with one place.
+fn shown(ns: f64) -> String {
+    if ns < 100.0 {
+        return format!("{ns:.1}");
+    }
+    let digits = format!("{ns:.0}");
+    let groups = digits.as_bytes().rchunks(3).rev().map(String::from_utf8_lossy);
+    groups.collect::<Vec<_>>().join(",")
+}
+
+/// Nanoseconds of processor time of so many calls, for one.
+fn time(clock: fn() -> f64, calls: u32, work: &mut Work) -> f64 {
+    let start = clock();
+    for _ in 0..calls {
+        black_box(work());
+    }
+    (clock() - start) / f64::from(calls)
+}
+
+/// How many calls a turn has.
+fn calls(clock: fn() -> f64, work: &mut Work) -> u32 {
+    time(clock, 1, work);
+    (TURN / time(clock, 1, work).max(10.0)).clamp(1.0, 1e6) as u32
+}
+
+/// The C library's clock and resources, declared by hand: seconds and nanoseconds, or microseconds.
+#[repr(C)]
+#[derive(Clone, Copy, Default)]
+struct Time {
+    seconds: i64,
+    parts: i64,
+}
+
+#[repr(C)]
+#[derive(Default)]
+struct Usage {
+    user: Time,
+    system: Time,
+    rest: [i64; 14],
+}
+
+extern "C" {
+    fn clock_gettime(clock: i32, time: *mut Time) -> i32;
+    fn getrusage(who: i32, usage: *mut Usage) -> i32;
+}
+
+/// CLOCK_PROCESS_CPUTIME_ID and RUSAGE_CHILDREN of Linux.
+const PROCESS_TIME: i32 = 2;
+const CHILDREN: i32 = -1;
+
+/// This process's own processor time.
+fn own() -> f64 {
+    let mut time = Time::default();
+    assert_eq!(unsafe { clock_gettime(PROCESS_TIME, &mut time) }, 0);
+    time.seconds as f64 * 1e9 + time.parts as f64
+}
+
+/// That of the programs it has started and waited for, loader and all.
+fn started() -> f64 {
+    let mut usage = Usage::default();
+    assert_eq!(unsafe { getrusage(CHILDREN, &mut usage) }, 0);
+    let ns = |time: Time| time.seconds as f64 * 1e9 + time.parts as f64 * 1e3;
+    ns(usage.user) + ns(usage.system)
+}
+
+fn main() {
+    let runs: usize = std::env::args().nth(1).and_then(|n| n.parse().ok()).unwrap_or(5);
+    let root = Path::new(env!("CARGO_MANIFEST_DIR")).join("../..");
+    let nursery = std::fs::read(root.join("examples/nursery.set")).expect("the nursery is there");
+    let inputs = Inputs::new(nursery);
+    let mut rows = Vec::new();
+    verdicts(&mut rows, &inputs);
+    bounds(&mut rows, &inputs);
+    slots(&mut rows, &inputs);
+    programs(&mut rows, &root);
+    records(&mut rows, &inputs);
+    rows.iter_mut().for_each(Row::compare);
+    for _ in 0..runs {
+        rows.iter_mut().for_each(Row::run);
+    }
+    println!("| what | proved, ns | second, ns | ratio | {runs} runs |\n|---|---|---|---|---|");
+    rows.iter().for_each(Row::print);
+}
+
+/// A set with its text.
+struct Input {
+    name: String,
+    set: Set,
+    text: Vec<u8>,
+}
+
+impl Input {
+    fn new(name: impl Into<String>, set: Set) -> Input {
+        Input { name: name.into(), set, text: text_of(&set) }
+    }
+
+    /// The state at a slot where every flow has started.
+    fn state(&self) -> State {
+        Record::new(&self.set).run(STARTED).last
+    }
+}
+
+/// The sets that are measured.
+struct Inputs {
+    one: Input,
+    eight: Input,
+    nursery: Input,
+    alike: Input,
+    full: Input,
+    ring: Input,
+    spread: Input,
+    busy: Input,
+    longest: Input,
+}
+
+impl Inputs {
+    fn new(nursery: Vec<u8>) -> Inputs {
+        let few = |count| Set { count, ..sets::full(&mut Rng::new(1)) };
+        let rounds = shown(second::verdict(&ring64()).rounds.into());
+        Inputs {
+            one: Input::new("1 flow of 17 nodes", few(1)),
+            eight: Input::new("8 flows of 17 nodes", few(8)),
+            nursery: Input::new("the nursery, 14 flows", second::read(&nursery).set),
+            alike: Input::new("9 flows of 17 nodes alike modulo 256", sets::alike(9)),
+            full: Input::new("64 flows of 17 nodes", few(64)),
+            ring: Input::new(format!("the ring, 64 flows, {rounds} rounds"), ring64()),
+            spread: Input::new("64 flows of one link, 6 % of the slots busy", sets::spread(1024, 16)),
+            busy: Input::new("64 flows, 16 sends a slot", sets::busy()),
+            longest: Input::new("8,138 bytes, the longest text", sets::longest()),
+        }
+    }
+}
+
+fn verdicts<'a>(rows: &mut Vec<Row<'a>>, inputs: &'a Inputs) {
+    for input in [&inputs.one, &inputs.eight, &inputs.nursery, &inputs.alike, &inputs.full, &inputs.ring] {
+        let text = &input.text;
+        rows.push(Row::new(
+            format!("verdict: {}", input.name),
+            move || compare::text_verdict(black_box(text)).rounds.into(),
+            move || verdict_of_text(black_box(text)).rounds.into(),
+        ));
+    }
+}
+
+fn bounds<'a>(rows: &mut Vec<Row<'a>>, inputs: &'a Inputs) {
+    for input in [&inputs.nursery, &inputs.full] {
+        let (text, last) = (&input.text, u32::from(input.set.count) - 1);
+        rows.push(Row::new(
+            format!("one flow's bounds: {}", input.name),
+            move || compare::text_bounds(black_box(text), last).tightened.into(),
+            move || bound_of_text(black_box(text), last).tightened.into(),
+        ));
+    }
+    let (text, count) = (&inputs.full.text, u32::from(inputs.full.set.count));
+    let once = move || {
+        let mut table = [0; 256];
+        let (_, numbers) = all_bounds_of_text(black_box(text), &mut table);
+        table[..numbers].chunks_exact(4).map(|row| u64::from(row[2])).sum()
+    };
+    #[cfg(all_bounds)]
+    rows.push(Row::new(
+        "all bounds in one call: 64 flows of 17 nodes",
+        move || {
+            let mut table = [0; 256];
+            let numbers = compare::text_all_bounds(black_box(text), &mut table).length;
+            table[..numbers].chunks_exact(4).map(|row| u64::from(row[2])).sum()
+        },
+        once,
+    ));
+    let each = move || (0..count).map(|k| u64::from(compare::text_bounds(black_box(text), k).tightened)).sum();
+    #[cfg(not(all_bounds))]
+    rows.push(Row::new("all bounds: 64 flows of 17 nodes; not like with like: 64 calls beside one", each, once));
+    #[cfg(all_bounds)]
+    rows.push(Row::new("the same by 64 calls; not like with like: the second planner by one", each, once));
+}
+
+/// One slot after the other, each from the bytes that the last left.
+fn slots<'a>(rows: &mut Vec<Row<'a>>, inputs: &'a Inputs) {
+    for input in [&inputs.nursery, &inputs.spread, &inputs.full, &inputs.busy] {
+        let text = &input.text;
+        let second = walk(input, move |state, lines| step_of_text(black_box(text), state, lines).bytes);
+        rows.push(Row::new(format!("one slot: {}", input.name), walk_proved(input), second).per(SLOTS));
+    }
+    let input = &inputs.nursery;
+    let Ok(mut machine) = Machine::new(&input.set) else { return };
+    let second = walk(input, move |state, lines| step_of_bytes(&mut machine, state, lines).bytes);
+    let name = "one slot: the nursery; not like with like: the second planner's machine was prepared once, it reads no text";
+    rows.push(Row::new(name, walk_proved(input), second).per(SLOTS));
+}
+
+/// Slots from a state where every flow has started: how many bytes of lines they have.
+fn walk<'a>(input: &'a Input, mut slot: impl FnMut(&mut [u8], &mut [u8]) -> usize + 'a) -> impl FnMut() -> u64 + 'a {
+    let first = bytes_of_state(&input.state());
+    move || {
+        let (mut state, mut lines) = (first, [0; 576]);
+        (0..SLOTS).map(|_| slot(&mut state, &mut lines) as u64).sum()
+    }
+}
+
+fn walk_proved(input: &Input) -> impl FnMut() -> u64 + '_ {
+    walk(input, |state, lines| compare::text_slot(black_box(&input.text), state, lines).length)
+}
+
+/// Whole processes, a file in and nothing out, both linked with shared libraries.
+fn programs<'a>(rows: &mut Vec<Row<'a>>, root: &Path) {
+    let [proved, second] = ["target/bin/plan", "tests/second/target/release/plan"].map(|path| root.join(path));
+    let start = |program: PathBuf, input: PathBuf| {
+        move || {
+            let input = File::open(&input).expect("the input is there");
+            let status = Command::new(&program).stdin(input).stdout(Stdio::null()).status().expect("the program is there");
+            u64::from(status.success())
+        }
+    };
+    for (name, input) in [("the nursery", "examples/nursery.set"), ("no input, which is refused: its start", "/dev/null")] {
+        let input = root.join(input);
+        let name = format!("the program, a whole process: {name}");
+        let row = Row::new(name, start(proved.clone(), input.clone()), start(second.clone(), input));
+        rows.push(Row { clock: started, ..row });
+    }
+}
+
+/// What C cannot call by itself.
+fn records<'a>(rows: &mut Vec<Row<'a>>, inputs: &'a Inputs) {
+    let Input { name, set, text } = &inputs.longest;
+    let record = Record::new(set);
+    let (mut ours, mut theirs) = (vec![0u8; 8200], vec![0u8; 8200]);
+    rows.push(Row::new(
+        format!("reading {name}, into a record"),
+        move || compare::read_only(black_box(text)).into(),
+        move || second::read(black_box(text)).refusal.number.into(),
+    ));
+    rows.push(Row::new(
+        "writing it from a record",
+        move || record.write(black_box(&mut ours)).length as u64,
+        move || second::write(black_box(set), black_box(&mut theirs)).bytes as u64,
+    ));
+    for input in [&inputs.spread, &inputs.busy] {
+        step(rows, input);
+        run(rows, input);
+    }
+}
+
+/// A step of a record, which both check.
+fn step<'a>(rows: &mut Vec<Row<'a>>, input: &'a Input) {
+    let (set, record, state) = (&input.set, Record::new(&input.set), input.state());
+    let proved = move || {
+        let (mut state, mut sends) = (state, 0);
+        for _ in 0..SLOTS {
+            let step = black_box(&record).step_only(&state);
+            state = step.0;
+            sends += u64::from(step.1);
+        }
+        sends
+    };
+    let second = move || {
+        let (mut state, mut sends) = (state, 0);
+        for _ in 0..SLOTS {
+            let step = second::step(black_box(set), &state);
+            state = step.state;
+            sends += step.slot.sends.len() as u64;
+        }
+        sends
+    };
+    rows.push(Row::new(format!("a step of a record, checked by both: {}", input.name), proved, second).per(SLOTS));
+}
+
+/// A run from the fresh state beside as many steps of a machine that was prepared once.
+fn run<'a>(rows: &mut Vec<Row<'a>>, input: &'a Input) {
+    let (record, mut slot) = (Record::new(&input.set), Slot::new());
+    let Ok(mut machine) = Machine::new(&input.set) else { return };
+    let second = move || {
+        let (mut state, mut delivered) = (State::FRESH, 0);
+        for _ in 0..RUN {
+            machine.step(&mut state, &mut slot);
+            delivered += slot.delivered.len() as u64;
+        }
+        delivered
+    };
+    let name = format!("a slot of a run: {}; not like with like: the proved one lists no sends", input.name);
+    rows.push(Row::new(name, move || black_box(&record).run(RUN).delivered, second).per(RUN));
 }

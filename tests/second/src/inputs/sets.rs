@@ -239,16 +239,45 @@ pub fn any(rng: &mut Rng) -> Set {
 
 /// A set at every limit, for measuring: 64 flows of 17 nodes on 16 channels.
 pub fn full(rng: &mut Rng) -> Set {
+    full_of(rng, 400)
+}
+
+/// The same with this many different nodes.
+fn full_of(rng: &mut Rng, pool: usize) -> Set {
     let shape = Shape {
         flows: (64, 64),
         channels: (16, 16),
         nodes: (17, 17),
-        pool: 400,
+        pool,
         tries: 1,
         periods: (2_000, 60_000),
         start: 2_000,
     };
     draw(rng, &shape)
+}
+
+/// The longest accepted text, for measuring: every number as long as it can be.
+pub fn longest() -> Set {
+    let mut set = full(&mut Rng::new(1));
+    set.map = 65_535;
+    for flow in &mut set.flows {
+        (flow.period, flow.deadline, flow.start, flow.tries) = (65_535, 65_535, 65_535, 4);
+        for (i, node) in (0..).zip(&mut flow.route) {
+            *node = 65_535 - i;
+        }
+    }
+    set
+}
+
+/// Flows of 17 nodes whose numbers are alike modulo 256, up to 64 of them: what tells nodes apart by their low bits
+/// tells nothing here.
+pub fn alike(flows: u16) -> Set {
+    let mut set = full_of(&mut Rng::new(9), 256);
+    set.count = flows;
+    for flow in &mut set.flows {
+        flow.route = flow.route.map(|node| 256 * node + 7);
+    }
+    set
 }
 
 /// 64 flows of one link with this period and deadline, whose starts are this far apart, for measuring: few slots have a packet.

@@ -1,7 +1,7 @@
 //! What C sees: the set as text, the state as 68 bytes, the `send` lines in a second buffer.
 
 use crate::checks::{set_of, P1_TEXT, PAPER};
-use second::host::{bound_of_text, bytes_of_state, state_of_bytes, step_of_text, verdict_of_text};
+use second::host::{all_bounds_of_text, bound_of_text, bytes_of_state, state_of_bytes, step_of_text, verdict_of_text};
 use second::inputs::{records, texts, Rng};
 use second::{bound, read, step, verdict, Bound, Refusal, State, Verdict, Written};
 
@@ -81,6 +81,27 @@ fn answers_over_text_are_those_over_the_record() {
             assert_eq!(verdict_of_text(&text), verdict(&read.set));
             assert_eq!(bound_of_text(&text, flow), bound(&read.set, flow));
         }
+    }
+}
+
+#[test]
+fn all_bounds_are_those_of_each_flow() {
+    // P1: C, basic, tightened, deadline of both flows; 8 numbers are needed and the further ones stay.
+    let mut table = [9; 9];
+    assert_eq!(all_bounds_of_text(P1_TEXT.as_bytes(), &mut table), (Refusal::NONE, 8));
+    assert_eq!(table, [2, 4, 2, 8, 2, 6, 6, 20, 9]);
+    assert_eq!(all_bounds_of_text(P1_TEXT.as_bytes(), &mut [0; 7]), (Refusal::at(10, 0), 0));
+    let mut rng = Rng::new(83);
+    for _ in 0..1_000 {
+        let (text, mut table) = (texts::any(&mut rng), [7; 256]);
+        let (refusal, numbers) = all_bounds_of_text(&text, &mut table);
+        let read = read(&text);
+        assert_eq!((refusal, numbers), (read.refusal, 4 * usize::from(read.set.count)));
+        for (k, row) in (0..).zip(table[..numbers].chunks(4)) {
+            let bound = bound(&read.set, k);
+            assert_eq!(row, [bound.c, bound.basic, bound.tightened, bound.deadline]);
+        }
+        assert!(table[numbers..].iter().all(|&number| number == 7));
     }
 }
 

@@ -38,9 +38,23 @@ pub fn over_text(tally: &mut Tally, rng: &mut Rng, bytes: &[u8]) {
         count(tally, other.refusal);
         hold_bounds(tally, &text.set, compare::text_bounds(bytes, flow), other);
     }
+    #[cfg(all_bounds)]
+    all_bounds(tally, rng, &text);
     let state = records::state_bytes(rng, &text.set);
     one_slot(tally, rng, &text, &state);
     plan(tally, rng, &text);
+}
+
+/// The table of all bounds: exact, one number short, longer, or none.
+#[cfg(all_bounds)]
+fn all_bounds(tally: &mut Tally, rng: &mut Rng, text: &Text) {
+    let before = vec![u32::from(BEFORE); room(rng, 4 * usize::from(text.set.count))];
+    let (mut ours, mut theirs) = (before.clone(), before);
+    let a = compare::text_all_bounds(text.bytes, &mut ours);
+    let (refusal, numbers) = second::host::all_bounds_of_text(text.bytes, &mut theirs);
+    count(tally, refusal);
+    tally.fault("the refusal of all bounds", &text.set, a.fault, refusal);
+    tally.hold("all bounds", &text.set, a.length == numbers && ours == theirs, || format!("{a:?}, {numbers}, {}", text.told()));
 }
 
 /// Slots of one text one after the other, from the fresh state.
