@@ -1,6 +1,8 @@
 //! Inputs for comparing planners, drawn from a seed: [`sets`] small and large and on either side of a line,
-//! [`texts`] damaged from good ones, [`records`] with garbage where nothing counts, and states good and bad.
+//! [`texts`] damaged from good ones, [`records`] with garbage where nothing counts, and states good and bad; and sets
+//! with a name, [`named`], whose answers were found by hand.
 
+pub mod named;
 pub mod records;
 pub mod sets;
 pub mod texts;

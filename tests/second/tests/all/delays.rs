@@ -2,7 +2,7 @@
 
 use crate::checks::{self, set_of, RIGHT};
 use crate::definition::{self, Equation};
-use second::inputs::{ring64, sets, Rng};
+use second::inputs::{named, ring64, sets, Rng};
 use second::{bound, verdict, Delays, Planner, Set};
 
 fn planner(set: &Set) -> Planner {
@@ -110,15 +110,24 @@ fn a_flow_over_its_deadline_keeps_the_value_above_it() {
 }
 
 #[test]
+fn named_sets_have_the_bounds_found_by_hand() {
+    for named in named::sets() {
+        let set = set_of(&named.text);
+        let (verdict, equation) = (verdict(&set), Equation::of(&set));
+        let greatest = equation.values(&equation.rounds().0);
+        assert_eq!((verdict.basic, verdict.tightened, verdict.rounds), named.verdict, "{}", named.name);
+        for (flow, basic, tightened) in named.bounds {
+            let bound = bound(&set, flow);
+            assert_eq!((bound.basic, bound.tightened), (basic, tightened), "{}: flow {flow}", named.name);
+            assert_eq!(greatest[flow as usize], i64::from(tightened), "{}: flow {flow}", named.name);
+        }
+    }
+}
+
+#[test]
 fn the_greatest_numbers_fit() {
     // 63 flows send in every slot; the 64th has the longest window.
-    let mut text = String::from("set\t1\n");
-    for k in 0..63 {
-        text += &format!("flow\t1\t1\t0\t1\t{}\t{}\n", 2 * k, 2 * k + 1);
-    }
-    text += "flow\t65535\t65535\t65535\t4";
-    (0..17).for_each(|i| text += &format!("\t{}", 65_535 - i));
-    let bound = bound(&set_of(&(text + "\n")), 63);
+    let bound = bound(&set_of(&named::sets()[0].text), 63);
     assert_eq!((bound.basic, bound.tightened), (64 + 63 * 65_535, 64 + 63 * 65_535));
     assert_eq!(bound.margin, 65_535 - 64 - 63 * 65_535);
 }

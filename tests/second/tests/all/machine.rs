@@ -1,7 +1,7 @@
 //! The slot machine: every slot against the definition, and the rules that runs from the fresh state don't reach.
 
 use crate::checks::{self, set_of, P1_TEXT, RIGHT};
-use second::inputs::{records, sets, Rng};
+use second::inputs::{named, records, sets, Rng};
 use second::record::LAST_SLOT;
 use second::{step, Delivered, Machine, Refusal, Set, Slot, State};
 
@@ -89,6 +89,19 @@ fn a_packet_is_delivered_and_dropped_in_its_own_slot_only() {
         }
     }
     assert_eq!(step(&set, &at(4, &[2])).slot, Slot::default());
+}
+
+#[test]
+fn named_sets_deliver_as_found_by_hand() {
+    for named in named::sets() {
+        let (mut state, mut found) = (State::FRESH, Vec::new());
+        let (mut machine, mut slot) = (machine(&set_of(&named.text)), Slot::default());
+        for t in 0..12 {
+            machine.step(&mut state, &mut slot);
+            found.extend(slot.delivered.iter().map(|packet| (t, packet.flow, packet.delay)));
+        }
+        assert!(named.delivered.is_none_or(|wanted| wanted == found), "{}: {found:?}", named.name);
+    }
 }
 
 #[test]

@@ -1,6 +1,6 @@
 //! The reader and the writer: refusals by number and line, and both round trips.
 
-use second::inputs::{records, sets, texts, Rng};
+use second::inputs::{named, records, sets, texts, Rng};
 use second::write::text_of;
 use second::{read, same, write, Refusal, Set};
 
@@ -10,6 +10,13 @@ fn refused(text: &[u8]) -> (u8, u32) {
     let read = read(text);
     assert!(!read.refusal.refuses() || read.set == Set::BLANK);
     (read.refusal.number, read.refusal.line)
+}
+
+#[test]
+fn named_texts_are_refused_as_they_say() {
+    for (name, text, number, line) in named::refused() {
+        assert_eq!(refused(text.as_bytes()), (number, line), "{name}");
+    }
 }
 
 /// First lines that lack the form, each a whole text.

@@ -60,9 +60,14 @@ fn all_bounds(tally: &mut Tally, rng: &mut Rng, text: &Text) {
 /// Slots of one text one after the other, from the fresh state.
 pub fn walk(tally: &mut Tally, rng: &mut Rng) {
     let bytes = text_of(&sets::any(rng));
-    let text = Text::new(&bytes);
+    walk_over(tally, rng, &bytes, 20);
+}
+
+/// So many slots of this text; one that finds no room for its lines is tried again.
+pub fn walk_over(tally: &mut Tally, rng: &mut Rng, bytes: &[u8], slots: u32) {
+    let text = Text::new(bytes);
     let mut state = bytes_of_state(&State::FRESH).to_vec();
-    for _ in 0..20 {
+    for _ in 0..slots {
         state = one_slot(tally, rng, &text, &state);
     }
 }

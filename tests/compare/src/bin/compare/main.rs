@@ -3,6 +3,7 @@
 //! that a user holds.
 
 mod calls;
+mod named;
 
 use compare::{Bounds, Fault, Record, Verdict};
 use second::inputs::{records, sets, texts, Rng};
@@ -70,7 +71,9 @@ fn main() {
     let first: u64 = std::env::args().nth(2).and_then(|s| s.parse().ok()).unwrap_or(1);
     let end = Instant::now() + Duration::from_secs(seconds);
     let mut tally = Tally::new(first);
-    named(&mut tally);
+    named::run_only(&mut tally);
+    named::found_by_hand(&mut tally);
+    named::refused(&mut tally);
     calls::named(&mut tally);
     let workers: Vec<_> = (0..WORKERS).map(|w| std::thread::spawn(move || seeds(first + w, end))).collect();
     for worker in workers {
@@ -212,42 +215,5 @@ fn long_run(tally: &mut Tally, rng: &mut Rng) {
         tally.admitted += 1;
         tally.packets += ran.delivered;
         tally.hold("demand 3: a dropped packet", &set, ran.dropped == 0, || format!("{ran:?}"));
-    }
-}
-
-/// Document 01's "run only" list, as named cases.
-fn named(tally: &mut Tally) {
-    let line = |t: u32, d: u32, nodes: u16| {
-        let route: String = (0..nodes).map(|n| format!("\t{n}")).collect();
-        format!("flow\t{t}\t{d}\t0\t1{route}\n")
-    };
-    let many = |n: usize| format!("set\t65535\n{}", line(100, 100, 2).repeat(n));
-    let one = |f: String| format!("set\t1\n{f}");
-    let sevens = |end: &str| format!("set\t3\nflow\t99\t99\t0\t1{}{end}", "\t7".repeat(32_000));
-    let cases = [
-        ("64 flows", many(64), 0),
-        ("65 flows", many(65), 3),
-        ("deadline equal to the period", one(line(50, 50, 2)), 0),
-        ("deadline one above the period", one(line(50, 51, 2)), 5),
-        ("17 nodes", one(line(50, 50, 17)), 0),
-        ("18 nodes", one(line(50, 50, 18)), 7),
-        ("32,000 nodes", sevens("\n"), 7),
-        ("32,000 nodes and a bad number", sevens("\tx\n"), 1),
-        ("32,000 nodes and no LF", sevens(""), 1),
-        ("07", "set\t07\n".to_string(), 1),
-        ("a missing last LF", "set\t7".to_string(), 1),
-    ];
-    for (name, text, number) in cases {
-        let refusal = compare::read(text.as_bytes()).0.refusal;
-        tally.hold(name, &Set::BLANK, refusal == number, || format!("refusal {refusal}"));
-        read_and_write(tally, text.as_bytes());
-    }
-    let set = second::read(many(3).as_bytes()).set;
-    let record = Record::new(&set);
-    let mut short = vec![1u8; many(3).len() - 1];
-    tally.hold("a buffer one byte short", &set, record.write(&mut short).fault.refusal == 10, String::new);
-    tally.hold("a buffer one byte short stays", &set, short.iter().all(|b| *b == 1), String::new);
-    for slot in [3_999_999_999, 4_000_000_000, 4_000_000_001] {
-        one_step(tally, &set, &record, &State { slot, ..State::FRESH });
     }
 }

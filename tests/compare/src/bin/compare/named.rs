@@ -1,0 +1,160 @@
+//! Cases with a name: document 01's "run only" list, sets whose answers were found by hand, and each refusal by itself. The proved planner's
+//! answers are held against the expected ones, and then every function against the second planner's.
+
+use crate::{calls, hold_bounds, hold_verdict, one_step, read_and_write, Tally};
+use compare::{Fault, Record};
+use second::host::{bytes_of_state, step_of_text, verdict_of_text};
+use second::inputs::named::{self, Named};
+use second::inputs::Rng;
+use second::{Machine, Set, Slot, State};
+
+/// How many slots of a named set are compared one by one.
+const SLOTS: u32 = 60;
+
+/// Every named set through C and through the records.
+pub fn found_by_hand(tally: &mut Tally) {
+    for named in named::sets() {
+        let set = compare::read(named.text.as_bytes()).1;
+        expected(tally, &named, &set);
+        read_and_write(tally, named.text.as_bytes());
+        through_c(tally, &named.text, &set);
+        through_records(tally, &set);
+    }
+}
+
+/// What the proved planner answers is what was found by hand.
+fn expected(tally: &mut Tally, named: &Named, set: &Set) {
+    let (text, record) = (named.text.as_bytes(), Record::new(set));
+    for verdict in [compare::text_verdict(text), record.verdict()] {
+        let told = (verdict.basic == 1, verdict.tightened == 1, verdict.rounds);
+        tally.hold(named.name, set, told == named.verdict, || format!("{verdict:?}"));
+    }
+    for &(flow, basic, tightened) in &named.bounds {
+        for bounds in [compare::text_bounds(text, flow), record.bounds(flow as u16)] {
+            let same = (bounds.basic, bounds.tightened) == (basic, tightened);
+            tally.hold(named.name, set, same, || format!("flow {flow}: {bounds:?}"));
+        }
+    }
+    let Some(delivered) = &named.delivered else { return };
+    let (mut st, mut found) = (State::FRESH, Vec::new());
+    for t in 0..12 {
+        let step = record.step(&st);
+        found.extend(step.delivered.iter().map(|d| (t, d.flow as u8, d.delay)));
+        st = step.next;
+    }
+    tally.hold(named.name, set, found == *delivered, || format!("{found:?}"));
+}
+
+/// Verdict, bounds of every flow and of none, slots one after the other, the plan.
+fn through_c(tally: &mut Tally, text: &str, set: &Set) {
+    let (bytes, mut rng) = (text.as_bytes(), Rng::new(tally.seed));
+    hold_verdict(tally, set, compare::text_verdict(bytes), verdict_of_text(bytes));
+    for flow in 0..=u32::from(set.count) {
+        hold_bounds(tally, set, compare::text_bounds(bytes, flow), second::host::bound_of_text(bytes, flow));
+    }
+    calls::walk_over(tally, &mut rng, bytes, SLOTS);
+    calls::over_text(tally, &mut rng, bytes);
+}
+
+/// Every function over the record: from the fresh state, and from a state at which every flow has started.
+fn through_records(tally: &mut Tally, set: &Set) {
+    let record = Record::new(set);
+    tally.fault("the record check", set, record.fault(), second::check(set));
+    hold_verdict(tally, set, record.verdict(), second::verdict(set));
+    for flow in 0..=set.count {
+        hold_bounds(tally, set, record.bounds(flow), second::bound(set, flow.into()));
+    }
+    let Ok(mut machine) = Machine::new(set) else { return };
+    let (mut st, mut slot) = (State::FRESH, Slot::new());
+    let (mut delivered, mut dropped) = (0, 0);
+    for t in 0..66_000 {
+        if t < SLOTS || t > 66_000 - SLOTS || t.abs_diff(65_535) < 10 {
+            one_step(tally, set, &record, &st);
+        }
+        machine.step(&mut st, &mut slot);
+        delivered += slot.delivered.len() as u64;
+        dropped += slot.dropped.len() as u64;
+    }
+    let ran = record.run(66_000);
+    let same = ran.last == st && ran.delivered == delivered && ran.dropped == dropped;
+    tally.hold("a run", set, same, || format!("{ran:?}, {st:?}, {delivered}, {dropped}"));
+}
+
+/// Each refusal of a text by itself, then 10 to 13 by themselves.
+pub fn refused(tally: &mut Tally) {
+    let mut rng = Rng::new(tally.seed);
+    for (name, text, number, line) in named::refused() {
+        hold_fault(tally, name, compare::text_verdict(text.as_bytes()).fault, number.into(), line);
+        read_and_write(tally, text.as_bytes());
+        calls::over_text(tally, &mut rng, text.as_bytes());
+    }
+    let text = b"set\t3\nflow\t10\t8\t0\t1\t1\t2\t3\nflow\t20\t20\t0\t1\t4\t2\t5\n";
+    let record = Record::new(&compare::read(text).1);
+    for flow in [2, 63, 64, 65_536, u32::MAX] {
+        hold_fault(tally, "no flow of that number", compare::text_bounds(text, flow).fault, 13, 0);
+    }
+    let bad = |slot, count: u8, beyond: u8| {
+        let mut st = State { slot, ..State::FRESH };
+        (st.sent[0], st.sent[2]) = (count, beyond);
+        st
+    };
+    let states = [
+        ("a slot above the last", bad(4_000_000_001, 0, 0), 12),
+        ("a count above C", bad(0, 3, 0), 12),
+        ("a count above C at the last slot", bad(4_000_000_000, 3, 0), 12),
+        ("a count beyond the last flow", bad(0, 0, 1), 12),
+        ("the last slot", bad(4_000_000_000, 2, 0), 11),
+    ];
+    for (name, st, number) in states {
+        let lines = &mut [0; 100];
+        hold_fault(tally, name, compare::text_slot(text, &mut bytes_of_state(&st), lines).fault, number, 0);
+        hold_fault(tally, name, record.step(&st).fault, number, 0);
+    }
+    let length = step_of_text(text, &mut bytes_of_state(&State::FRESH), &mut [0; 100]).bytes;
+    for (room, number) in [(0, 10), (length - 1, 10), (length, 0)] {
+        let (mut state, mut lines) = (bytes_of_state(&State::FRESH), vec![0; room]);
+        hold_fault(tally, "room for a slot's lines", compare::text_slot(text, &mut state, &mut lines).fault, number, 0);
+    }
+    hold_fault(tally, "67 bytes of state", compare::text_slot(text, &mut [0; 67], &mut [0; 100]).fault, 12, 0);
+}
+
+fn hold_fault(tally: &mut Tally, name: &str, fault: Fault, refusal: u32, line: u32) {
+    tally.hold(name, &Set::BLANK, fault == Fault { refusal, line }, || format!("{fault:?}"));
+}
+
+/// Document 01's "run only" list.
+pub fn run_only(tally: &mut Tally) {
+    let line = |t: u32, d: u32, nodes: u16| {
+        let route: String = (0..nodes).map(|n| format!("\t{n}")).collect();
+        format!("flow\t{t}\t{d}\t0\t1{route}\n")
+    };
+    let many = |n: usize| format!("set\t65535\n{}", line(100, 100, 2).repeat(n));
+    let one = |f: String| format!("set\t1\n{f}");
+    let sevens = |end: &str| format!("set\t3\nflow\t99\t99\t0\t1{}{end}", "\t7".repeat(32_000));
+    let cases = [
+        ("64 flows", many(64), 0),
+        ("65 flows", many(65), 3),
+        ("deadline equal to the period", one(line(50, 50, 2)), 0),
+        ("deadline one above the period", one(line(50, 51, 2)), 5),
+        ("17 nodes", one(line(50, 50, 17)), 0),
+        ("18 nodes", one(line(50, 50, 18)), 7),
+        ("32,000 nodes", sevens("\n"), 7),
+        ("32,000 nodes and a bad number", sevens("\tx\n"), 1),
+        ("32,000 nodes and no LF", sevens(""), 1),
+        ("07", "set\t07\n".to_string(), 1),
+        ("a missing last LF", "set\t7".to_string(), 1),
+    ];
+    for (name, text, number) in cases {
+        let refusal = compare::read(text.as_bytes()).0.refusal;
+        tally.hold(name, &Set::BLANK, refusal == number, || format!("refusal {refusal}"));
+        read_and_write(tally, text.as_bytes());
+    }
+    let set = second::read(many(3).as_bytes()).set;
+    let record = Record::new(&set);
+    let mut short = vec![1u8; many(3).len() - 1];
+    tally.hold("a buffer one byte short", &set, record.write(&mut short).fault.refusal == 10, String::new);
+    tally.hold("a buffer one byte short stays", &set, short.iter().all(|b| *b == 1), String::new);
+    for slot in [3_999_999_999, 4_000_000_000, 4_000_000_001] {
+        one_step(tally, &set, &record, &State { slot, ..State::FRESH });
+    }
+}
