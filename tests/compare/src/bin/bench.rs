@@ -1,7 +1,8 @@
 //! One table: the proved planner beside the second one, the same input in the same process, both built for release, by processor time.
-//! `bench [RUNS]` goes through all rows that often (default 5). In a run the two take turns, and a row's figures are medians of the turns; the
-//! table has the medians of the runs, and the lowest and the highest ratio of a run. Before anything is measured the answers are compared.
-//! Rows are what C calls unless they say otherwise; both sides start from the same text, and a row that is not like with like says so.
+//! `bench [RUNS] [WORDS]` goes that often (default 5) through all rows, or those whose name has the words. In a run the two take turns, and a
+//! row's figures are medians of the turns; the table has the medians of the runs, and the lowest and the highest ratio of a run. Before
+//! anything is measured the answers are compared. Rows are what C calls unless they say otherwise; both sides start from the same text, and
+//! a row that is not like with like says so.
 
 use compare::Record;
 use second::host::{all_bounds_of_text, bound_of_text, bytes_of_state, step_of_bytes, step_of_text, verdict_of_text};
@@ -165,11 +166,13 @@ fn main() {
     slots(&mut rows, &inputs);
     programs(&mut rows, &root);
     records(&mut rows, &inputs);
+    let words = std::env::args().nth(2).unwrap_or_default();
+    rows.retain(|row| row.name.contains(&words));
     rows.iter_mut().for_each(Row::compare);
     for _ in 0..runs {
         rows.iter_mut().for_each(Row::run);
     }
-    println!("| what | proved, ns | second, ns | ratio | {runs} runs |\n|---|---|---|---|---|");
+    println!("| what | proved, ns | second, ns | ratio | in {runs} runs |\n|---|---|---|---|---|");
     rows.iter().for_each(Row::print);
 }
 
