@@ -334,28 +334,38 @@ fn records<'a>(rows: &mut Vec<Row<'a>>, inputs: &'a Inputs) {
     }
 }
 
-/// A step of a record, which both check.
+/// A step of a record, which both check; then beside a machine that was prepared once.
 fn step<'a>(rows: &mut Vec<Row<'a>>, input: &'a Input) {
-    let (set, record, state) = (&input.set, Record::new(&input.set), input.state());
+    let (set, state) = (&input.set, input.state());
     let proved = move || {
-        let (mut state, mut sends) = (state, 0);
-        for _ in 0..SLOTS {
-            let step = black_box(&record).step_only(&state);
-            state = step.0;
-            sends += u64::from(step.1);
-        }
-        sends
+        let record = Record::new(set);
+        steps(state, move |state| {
+            let (next, sends) = black_box(&record).step_only(state);
+            *state = next;
+            sends.into()
+        })
     };
-    let second = move || {
-        let (mut state, mut sends) = (state, 0);
-        for _ in 0..SLOTS {
-            let step = second::step(black_box(set), &state);
-            state = step.state;
-            sends += step.slot.sends.len() as u64;
-        }
-        sends
-    };
-    rows.push(Row::new(format!("a step of a record, checked by both: {}", input.name), proved, second).per(SLOTS));
+    let second = steps(state, move |state| {
+        let step = second::step(black_box(set), state);
+        *state = step.state;
+        step.slot.sends.len() as u64
+    });
+    rows.push(Row::new(format!("a step of a record, checked by both: {}", input.name), proved(), second).per(SLOTS));
+    let (Ok(mut machine), mut slot) = (Machine::new(set), Slot::new()) else { return };
+    let prepared = steps(state, move |state| {
+        machine.step(state, &mut slot);
+        slot.sends.len() as u64
+    });
+    let name = format!("a step of a record: {}; not like with like: the second planner's machine was prepared once", input.name);
+    rows.push(Row::new(name, proved(), prepared).per(SLOTS));
+}
+
+/// Steps from a state, each from the one that the last left: how many sends they have.
+fn steps<'a>(first: State, mut step: impl FnMut(&mut State) -> u64 + 'a) -> impl FnMut() -> u64 + 'a {
+    move || {
+        let mut state = first;
+        (0..SLOTS).map(|_| step(&mut state)).sum()
+    }
 }
 
 /// A run from the fresh state beside as many steps of a machine that was prepared once.
