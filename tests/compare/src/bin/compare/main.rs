@@ -73,6 +73,7 @@ fn main() {
     let mut tally = Tally::new(first);
     named::run_only(&mut tally);
     named::found_by_hand(&mut tally);
+    named::at_the_limits(&mut tally);
     named::refused(&mut tally);
     calls::named(&mut tally);
     let workers: Vec<_> = (0..WORKERS).map(|w| std::thread::spawn(move || seeds(first + w, end))).collect();

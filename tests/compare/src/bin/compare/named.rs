@@ -5,7 +5,8 @@ use crate::{calls, hold_bounds, hold_verdict, one_step, read_and_write, Tally};
 use compare::{Fault, Record};
 use second::host::{bytes_of_state, step_of_text, verdict_of_text};
 use second::inputs::named::{self, Named};
-use second::inputs::Rng;
+use second::inputs::{ring64, sets, Rng};
+use second::write::text_of;
 use second::{Machine, Set, Slot, State};
 
 /// How many slots of a named set are compared one by one.
@@ -17,9 +18,21 @@ pub fn found_by_hand(tally: &mut Tally) {
         let set = compare::read(named.text.as_bytes()).1;
         expected(tally, &named, &set);
         read_and_write(tally, named.text.as_bytes());
-        through_c(tally, &named.text, &set);
+        through_c(tally, named.text.as_bytes(), &set);
         through_records(tally, &set);
     }
+}
+
+/// The sets that are measured: as many flows, nodes, rounds and bytes as there can be.
+pub fn at_the_limits(tally: &mut Tally) {
+    for set in [sets::alike(9), sets::alike(64), sets::full(&mut Rng::new(1)), sets::busy(), sets::longest()] {
+        let text = text_of(&set);
+        read_and_write(tally, &text);
+        through_c(tally, &text, &set);
+        through_records(tally, &set);
+    }
+    // of the ring not every flow's bounds: each takes thousands of rounds
+    calls::over_text(tally, &mut Rng::new(tally.seed), &text_of(&ring64()));
 }
 
 /// What the proved planner answers is what was found by hand.
@@ -46,8 +59,8 @@ fn expected(tally: &mut Tally, named: &Named, set: &Set) {
 }
 
 /// Verdict, bounds of every flow and of none, slots one after the other, the plan.
-fn through_c(tally: &mut Tally, text: &str, set: &Set) {
-    let (bytes, mut rng) = (text.as_bytes(), Rng::new(tally.seed));
+fn through_c(tally: &mut Tally, bytes: &[u8], set: &Set) {
+    let mut rng = Rng::new(tally.seed);
     hold_verdict(tally, set, compare::text_verdict(bytes), verdict_of_text(bytes));
     for flow in 0..=u32::from(set.count) {
         hold_bounds(tally, set, compare::text_bounds(bytes, flow), second::host::bound_of_text(bytes, flow));
