@@ -23,9 +23,11 @@ pub fn found_by_hand(tally: &mut Tally) {
     }
 }
 
-/// The sets that are measured: as many flows, nodes, rounds and bytes as there can be.
+/// The sets that are measured: as many flows, nodes, rounds and bytes as there can be; and 16 and 17 flows, on either side of where the second
+/// planner goes over to sums of all 64 places.
 pub fn at_the_limits(tally: &mut Tally) {
-    for set in [sets::alike(9), sets::alike(64), sets::full(&mut Rng::new(1)), sets::busy(), sets::longest()] {
+    let few = |count| Set { count, ..sets::full(&mut Rng::new(1)) };
+    for set in [few(16), few(17), few(64), sets::alike(9), sets::alike(64), sets::busy(), sets::longest()] {
         let text = text_of(&set);
         read_and_write(tally, &text);
         through_c(tally, &text, &set);
