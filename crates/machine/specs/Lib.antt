@@ -1,3 +1,4 @@
+pub mod LentArrays
 pub mod Channels
 pub mod PacketNumbers
 pub mod ArrayLists

@@ -18,7 +18,8 @@ use Rattle.model.specs.declared.kinds.State.{State}
 use Rattle.model.specs.Sets.{flowAt, used}
 use Rattle.document.specs.Machine.{countAt, hadAt, dueAt}
 use Rattle.machine.specs.ArrayLists.{Through, through-next, through-stay}
-use Rattle.machine.specs.PacketNumbers.{dueIn, due-first, hadIn, had-is, Packets}
+use Rattle.machine.specs.LentArrays.{Numbers, Releases, releasesOf, packetsOf}
+use Rattle.machine.specs.PacketNumbers.{dueIn, due-first, hadIn, had-is, PacketsHold}
 use Rattle.machine.specs.States.{GoodState}
 use Rattle.machine.specs.SlotByColumns.{AfterNumbers, none-packet, numbers-fit}
 
@@ -69,94 +70,102 @@ release-later a p d t due next h (inr w) = (
 )
 
 -- where all flows of a set stand
-pub record NextReleases (s : FlowSet) (t : ℕ) (start period deadline due next : List ℕ) : Type 0 where
-  pub turn : (k : ℕ) → k < s .count → NextRelease (getD start k 0) (getD period k 0) (getD deadline k 0) t (getD due k 0) (getD next k 0)
+pub record NextReleases (s : FlowSet) (t : ℕ) (numbers : Numbers) (due next : List ℕ) : Type 0 where
+  pub turn : (k : ℕ) → k < s .count
+      → NextRelease (getD (numbers .start) k 0) (getD (numbers .period) k 0) (getD (numbers .deadline) k 0) t (getD due k 0) (getD next k 0)
   pub none : (k : ℕ) → s .count ≤ k → getD due k 0 ≡ 0
 
+-- a number that a flow's release in slot t makes, and the old one where it has none
+abbrev pub releasedBy : ℕ → List ℕ → (ℕ → ℕ) → List ℕ → ℕ → ℕ
+releasedBy t next made old k = cond (eqb (getD next k 0) t) (made k) (getD old k 0)
+
 -- what slot t's releases change
-pub record Released (count t : ℕ) (period deadline due next sent due′ next′ sent′ : List ℕ) : Type 0 where
-  pub dues : Through (λ k. cond (eqb (getD next k 0) t) (t + getD deadline k 0) (getD due k 0)) count due due′
-  pub nexts : Through (λ k. cond (eqb (getD next k 0) t) (t + getD period k 0) (getD next k 0)) count next next′
-  pub sents : Through (λ k. cond (eqb (getD next k 0) t) 0 (getD sent k 0)) count sent sent′
+pub record Released (count t : ℕ) (period deadline : List ℕ) (before after : Releases) : Type 0 where
+  pub dues : Through (releasedBy t (before .next) (λ k. t + getD deadline k 0) (before .due)) count (before .due) (after .due)
+  pub nexts : Through (releasedBy t (before .next) (λ k. t + getD period k 0) (before .next)) count (before .next) (after .next)
+  pub sents : Through (releasedBy t (before .next) (λ k. 0) (before .sent)) count (before .sent) (after .sent)
 
 -- with no release nothing changes
-pub released-none : (count t : ℕ) (period deadline due next sent : List ℕ) → ((k : ℕ) → k < count → t < getD next k 0)
-    → Released count t period deadline due next sent due next sent
-released-none count t period deadline due next sent h = record { dues = same due _; nexts = same next _; sents = same sent _ }
+pub released-none : (count t : ℕ) (period deadline : List ℕ) (r : Releases) → ((k : ℕ) → k < count → t < getD (r .next) k 0)
+    → Released count t period deadline r r
+released-none count t period deadline r h = record { dues = same (r .due) _; nexts = same (r .next) _; sents = same (r .sent) _ }
   where
-    same : (l : List ℕ) (f : ℕ → ℕ) → Through (λ k. cond (eqb (getD next k 0) t) (f k) (getD l k 0)) count l l
+    same : (l : List ℕ) (f : ℕ → ℕ) → Through (releasedBy t (r .next) f l) count l l
     same l f =
         record {
           long = refl;
-          below = λ k b. sym (ap (λ (c : Bool). cond c (f k) (getD l k 0)) (ne-eqb (getD next k 0) t (λ e. omega (arith, h k b))));
+          below = λ k b. sym (ap (λ (c : Bool). cond c (f k) (getD l k 0)) (ne-eqb (getD (r .next) k 0) t (λ e. omega (arith, h k b))));
           above = λ k b. refl;
         }
 
 -- one flow after the other
-module _ (n t : ℕ) (period deadline due next sent due′ next′ sent′ : List ℕ) (r : Released n t period deadline due next sent due′ next′ sent′) where
-  pub released-now : n < length due → n < length next → n < length sent → getD next′ n 0 ≡ t
-      → Released (n + 1) t period deadline due next sent (set due′ n (t + getD deadline n 0)) (set next′ n (t + getD period n 0)) (set sent′ n 0)
-  released-now a b c e =
-      let h : eqb (getD next n 0) t ≡ true = eq-eqb (getD next n 0) t (sym (r .nexts .above n (le-refl n)) ∙ e) in
+module _ (n t : ℕ) (period deadline : List ℕ) (old new : Releases) (r : Released n t period deadline old new) where
+  pub released-now : (x y : ℕ) → x ≡ t + getD deadline n 0 → y ≡ t + getD period n 0
+      → n < length (old .due) → n < length (old .next) → n < length (old .sent) → getD (new .next) n 0 ≡ t
+      → Released (n + 1) t period deadline old (releasesOf (set (new .due) n x) (set (new .next) n y) (set (new .sent) n 0))
+  released-now x y d p a b c e =
+      let h : eqb (getD (old .next) n 0) t ≡ true = eq-eqb (getD (old .next) n 0) t (sym (r .nexts .above n (le-refl n)) ∙ e) in
       record {
-        dues = through-next _ n due due′ (t + getD deadline n 0) a (sym (ap (λ (x : Bool). cond x (t + getD deadline n 0) (getD due n 0)) h)) (r .dues);
-        nexts = through-next _ n next next′ (t + getD period n 0) b (sym (ap (λ (x : Bool). cond x (t + getD period n 0) (getD next n 0)) h)) (r .nexts);
-        sents = through-next _ n sent sent′ 0 c (sym (ap (λ (x : Bool). cond x 0 (getD sent n 0)) h)) (r .sents);
+        dues = through-next _ n (old .due) (new .due) x a (d ∙ sym (ap (λ (z : Bool). cond z (t + getD deadline n 0) (getD (old .due) n 0)) h)) (r .dues);
+        nexts = through-next _ n (old .next) (new .next) y b (p ∙ sym (ap (λ (z : Bool). cond z (t + getD period n 0) (getD (old .next) n 0)) h)) (r .nexts);
+        sents = through-next _ n (old .sent) (new .sent) 0 c (sym (ap (λ (z : Bool). cond z 0 (getD (old .sent) n 0)) h)) (r .sents);
       }
 
-  pub released-later : (getD next′ n 0 ≡ t → ⊥) → Released (n + 1) t period deadline due next sent due′ next′ sent′
+  pub released-later : (getD (new .next) n 0 ≡ t → ⊥) → Released (n + 1) t period deadline old new
   released-later e =
-      let h : eqb (getD next n 0) t ≡ false = ne-eqb (getD next n 0) t (λ q. e (r .nexts .above n (le-refl n) ∙ q)) in
+      let h : eqb (getD (old .next) n 0) t ≡ false = ne-eqb (getD (old .next) n 0) t (λ q. e (r .nexts .above n (le-refl n) ∙ q)) in
       record {
-        dues = through-stay _ n due due′ (sym (ap (λ (x : Bool). cond x (t + getD deadline n 0) (getD due n 0)) h)) (r .dues);
-        nexts = through-stay _ n next next′ (sym (ap (λ (x : Bool). cond x (t + getD period n 0) (getD next n 0)) h)) (r .nexts);
-        sents = through-stay _ n sent sent′ (sym (ap (λ (x : Bool). cond x 0 (getD sent n 0)) h)) (r .sents);
+        dues = through-stay _ n (old .due) (new .due) (sym (ap (λ (x : Bool). cond x (t + getD deadline n 0) (getD (old .due) n 0)) h)) (r .dues);
+        nexts = through-stay _ n (old .next) (new .next) (sym (ap (λ (x : Bool). cond x (t + getD period n 0) (getD (old .next) n 0)) h)) (r .nexts);
+        sents = through-stay _ n (old .sent) (new .sent) (sym (ap (λ (x : Bool). cond x 0 (getD (old .sent) n 0)) h)) (r .sents);
       }
 
--- no next release comes before a slot, and one more
-pub soon-set : (next : List ℕ) (n x a b : ℕ) → n < length next → b ≤ a → b ≤ x → ((k : ℕ) → k < n → a ≤ getD next k 0)
-    → (k : ℕ) → k < n + 1 → b ≤ getD (set next n x) k 0
+-- no next release of the first n flows comes before a slot
+abbrev pub NoneBefore : ℕ → ℕ → List ℕ → Type 0
+NoneBefore n slot next = (k : ℕ) → k < n → slot ≤ getD next k 0
+
+-- and one flow more
+pub soon-set : (next : List ℕ) (n x a b : ℕ) → n < length next → b ≤ a → b ≤ x → NoneBefore n a next → NoneBefore (n + 1) b (set next n x)
 soon-set next n x a b h i j f k l = elim (decLe n k) [
   | yes d ↦ let e : k ≡ n = omega arith in rw (e, getD-set-same next n x 0 h) j
   | no d ↦ rw (getD-set-other next n k x 0 (λ e. omega arith)) (omega (arith, f k (omega arith)))
 ]
 
-pub soon-stay : (next : List ℕ) (n a b : ℕ) → b ≤ a → b ≤ getD next n 0 → ((k : ℕ) → k < n → a ≤ getD next k 0)
-    → (k : ℕ) → k < n + 1 → b ≤ getD next k 0
+pub soon-stay : (next : List ℕ) (n a b : ℕ) → b ≤ a → b ≤ getD next n 0 → NoneBefore n a next → NoneBefore (n + 1) b next
 soon-stay next n a b i j f k l = elim (decLe n k) [
   | yes d ↦ let e : k ≡ n = omega arith in rw e j
   | no d ↦ omega (arith, f k (omega arith))
 ]
 
-module _ (s : FlowSet) (st : State) (start period deadline work due next due′ next′ sent′ : List ℕ) (p : AfterNumbers s start period deadline work)
-    (g : GoodState (used s) st) (u : NextReleases s (st .slot .0) start period deadline due next)
-    (r : Released (s .count) (st .slot .0) period deadline due next (st .sent) due′ next′ sent′) where
+module _ (s : FlowSet) (st : State) (numbers : Numbers) (due next : List ℕ) (after : Releases) (n : AfterNumbers s numbers) (g : GoodState (used s) st)
+    (u : NextReleases s (st .slot .0) numbers due next)
+    (r : Released (s .count) (st .slot .0) (numbers .period) (numbers .deadline) (releasesOf due next (st .sent)) after) where
   -- one flow in the slot
-  record One (k : ℕ) : Type 0 where
-    due-is : getD due′ k 0 ≡ dueIn (getD start k 0) (getD period k 0) (getD deadline k 0) (st .slot .0)
-    had-of : getD sent′ k 0 ≡ hadIn (getD due′ k 0) (getD deadline k 0) (st .slot .0) (countAt st k)
-    turn-on : NextRelease (getD start k 0) (getD period k 0) (getD deadline k 0) (st .slot .0 + 1) (getD due′ k 0) (getD next′ k 0)
+  record One (k a q d : ℕ) : Type 0 where
+    due-is : getD (after .due) k 0 ≡ dueIn a q d (st .slot .0)
+    had-of : getD (after .sent) k 0 ≡ hadIn (getD (after .due) k 0) d (st .slot .0) (countAt st k)
+    turn-on : NextRelease a q d (st .slot .0 + 1) (getD (after .due) k 0) (getD (after .next) k 0)
 
-  one : (k : ℕ) → k < s .count → One k
+  one : (k : ℕ) → k < s .count → One k (getD (numbers .start) k 0) (getD (numbers .period) k 0) (getD (numbers .deadline) k 0)
   one k h = go (eqb (getD next k 0) (st .slot .0)) refl
     where
       a : ℕ
-      a = getD start k 0
+      a = getD (numbers .start) k 0
 
       q : ℕ
-      q = getD period k 0
+      q = getD (numbers .period) k 0
 
       d : ℕ
-      d = getD deadline k 0
+      d = getD (numbers .deadline) k 0
 
       t : ℕ
       t = st .slot .0
 
-      go : (b : Bool) → eqb (getD next k 0) (st .slot .0) ≡ b → One k
+      go : (b : Bool) → eqb (getD next k 0) (st .slot .0) ≡ b → One k a q d
       go true e =
-          let w = release-now a q d t (getD due k 0) (getD next k 0) (numbers-fit s start period deadline work p k h .0) (eqb-true _ _ e) (u .turn k h) in
-          let x : getD due′ k 0 ≡ t + d = r .dues .below k h ∙ rw e in
-          let y : getD next′ k 0 ≡ t + q = r .nexts .below k h ∙ rw e in
+          let w = release-now a q d t (getD due k 0) (getD next k 0) (numbers-fit s numbers n k h) (eqb-true _ _ e) (u .turn k h) in
+          let x : getD (after .due) k 0 ≡ t + d = r .dues .below k h ∙ rw e in
+          let y : getD (after .next) k 0 ≡ t + q = r .nexts .below k h ∙ rw e in
           record {
             due-is = x ∙ sym (w .0);
             had-of = r .sents .below k h ∙ rw (e, x, eq-eqb (t + d) (t + d) refl);
@@ -166,12 +175,12 @@ module _ (s : FlowSet) (st : State) (start period deadline work due next due′ 
           let f = eqb-false (getD next k 0) (st .slot .0) e in
           let l : t < getD next k 0 = omega (arith, release-no-earlier a q d t (getD due k 0) (getD next k 0) (u .turn k h), f) in
           let w = release-later a q d t (getD due k 0) (getD next k 0) l (u .turn k h) in
-          let x : getD due′ k 0 ≡ getD due k 0 = r .dues .below k h ∙ rw e in
-          let y : getD next′ k 0 ≡ getD next k 0 = r .nexts .below k h ∙ rw e in
-          let n : eqb (t + d) (getD due k 0) ≡ false = ne-eqb _ _ (λ f. apart (w .2) f) in
+          let x : getD (after .due) k 0 ≡ getD due k 0 = r .dues .below k h ∙ rw e in
+          let y : getD (after .next) k 0 ≡ getD next k 0 = r .nexts .below k h ∙ rw e in
+          let z : eqb (t + d) (getD due k 0) ≡ false = ne-eqb _ _ (λ f. apart (w .2) f) in
           record {
             due-is = x ∙ sym (w .0);
-            had-of = r .sents .below k h ∙ rw (e, x, n);
+            had-of = r .sents .below k h ∙ rw (e, x, z);
             turn-on = rw (x, y) (w .1);
           }
         where
@@ -179,20 +188,20 @@ module _ (s : FlowSet) (st : State) (start period deadline work due next due′ 
           apart (inl h) e = omega arith
           apart (inr h) e = omega arith
 
-  pub packets-after-releases : Packets (used s) st due′ sent′
-  packets-after-releases = record { dues = dues; hads = hads }
+  pub packets-after-releases : PacketsHold (used s) st (packetsOf (numbers .start) (after .due) (after .sent) (numbers .work)) (numbers .deadline)
+  packets-after-releases = record { starts = n .starts; dues = dues; hads = hads; works = n .works; deadlines = n .deadlines }
     where
-      dues : (k : ℕ) → getD due′ k 0 ≡ dueAt (used s) st k
+      dues : (k : ℕ) → getD (after .due) k 0 ≡ dueAt (used s) st k
       dues k = elim (decLe (s .count) k) [
         | yes d ↦ r .dues .above k d ∙ u .none k d ∙ sym (none-packet s st g k d .0)
-        | no d ↦ one k (omega arith) .due-is ∙ rw (p .columns .starts k, p .periods k, p .columns .deadlines k)
+        | no d ↦ one k (omega arith) .due-is ∙ rw (n .starts k, n .periods k, n .deadlines k)
       ]
 
-      hads : (k : ℕ) → getD sent′ k 0 ≡ hadAt (used s) st k
+      hads : (k : ℕ) → getD (after .sent) k 0 ≡ hadAt (used s) st k
       hads k = elim (decLe (s .count) k) [
         | yes d ↦ r .sents .above k d ∙ none-packet s st g k d .2 ∙ sym (none-packet s st g k d .1)
-        | no d ↦ one k (omega arith) .had-of ∙ rw (dues k, p .columns .deadlines k) (had-is (flowAt (used s) k) (st .slot .0) (countAt st k))
+        | no d ↦ one k (omega arith) .had-of ∙ rw (dues k, n .deadlines k) (had-is (flowAt (used s) k) (st .slot .0) (countAt st k))
       ]
 
-  pub releases-next : NextReleases s (st .slot .0 + 1) start period deadline due′ next′
+  pub releases-next : NextReleases s (st .slot .0 + 1) numbers (after .due) (after .next)
   releases-next = record { turn = λ k h. one k h .turn-on; none = λ k h. r .dues .above k h ∙ u .none k h }

@@ -24,6 +24,7 @@ use Rattle.document.specs.Machine.{released, releaseAt, deadlineAt, had, ready,
 use Rattle.laws.specs.SumLaws.{and-l, and-r}
 use Rattle.laws.specs.Accepted.{GoodFlow, accepted}
 use Rattle.laws.specs.Used.{used-flow, used-count}
+use Rattle.machine.specs.LentArrays.{Packets}
 
 -- the absolute deadline of the latest packet, from the start, the period, the deadline and the slot
 abbrev pub dueIn : ℕ → ℕ → ℕ → ℕ → ℕ
@@ -105,28 +106,34 @@ used-none s k h =
     List·getD-eq-default (map exact (take (s .count) (s .flows))) noFlow
     (rw (length-map, length-take) (omega arith))
 
--- the numbers of a set's flows, each in an array of its own
-pub record Columns (s : FlowSet) (start deadline work : List ℕ) : Type 0 where
-  pub starts : (k : ℕ) → getD start k 0 ≡ flowAt s k .start
+-- the arrays hold what rule 2 asks of each flow's packet in a state, and each flow's deadline
+pub record PacketsHold (s : FlowSet) (st : State) (p : Packets) (deadline : List ℕ) : Type 0 where
+  pub starts : (k : ℕ) → getD (p .start) k 0 ≡ flowAt s k .start
+  pub dues : (k : ℕ) → getD (p .due) k 0 ≡ dueAt s st k
+  pub hads : (k : ℕ) → getD (p .sent) k 0 ≡ hadAt s st k
+  pub works : (k : ℕ) → getD (p .work) k 0 ≡ workAt s k
   pub deadlines : (k : ℕ) → getD deadline k 0 ≡ flowAt s k .deadline .0
-  pub works : (k : ℕ) → getD work k 0 ≡ workAt s k
 
--- each flow's absolute deadline and the transmissions that its packet has had
-pub record Packets (s : FlowSet) (st : State) (due sent : List ℕ) : Type 0 where
-  pub dues : (k : ℕ) → getD due k 0 ≡ dueAt s st k
-  pub hads : (k : ℕ) → getD sent k 0 ≡ hadAt s st k
-
--- the order by an array of keys, smaller key, then lower flow number; readiness by arrays
+-- the order by an array of keys: smaller key, then lower flow number
 abbrev pub aheadBy : List ℕ → ℕ → ℕ → Bool
 aheadBy key k l = ltb (getD key k 0) (getD key l 0) || (eqb (getD key k 0) (getD key l 0) && ltb k l)
 
-abbrev pub readyBy : List ℕ → List ℕ → List ℕ → List ℕ → ℕ → ℕ → Bool
-readyBy start due sent work t k = readyIn (getD start k 0) (getD due k 0) (getD sent k 0) (getD work k 0) t
+-- rule 2 by arrays
+abbrev pub readyBy : Packets → ℕ → ℕ → Bool
+readyBy p t k = readyIn (getD (p .start) k 0) (getD (p .due) k 0) (getD (p .sent) k 0) (getD (p .work) k 0) t
+
+-- each flow's absolute deadline in slot t, and what its packet has had there
+abbrev pub dueBy : List ℕ → List ℕ → List ℕ → ℕ → ℕ → ℕ
+dueBy start period deadline t k = dueIn (getD start k 0) (getD period k 0) (getD deadline k 0) t
+
+abbrev pub hadBy : List ℕ → List ℕ → ℕ → List ℕ → ℕ → ℕ
+hadBy due deadline t sent k = hadIn (getD due k 0) (getD deadline k 0) t (getD sent k 0)
 
 -- a ready packet is short of C
-pub ready-work : (start due sent work : List ℕ) (t k : ℕ) → readyBy start due sent work t k ≡ true → getD sent k 0 < getD work k 0
-ready-work start due sent work t k e =
-    ltb-true (getD sent k 0) (getD work k 0) (and-r (leb (getD start k 0) t && ltb t (getD due k 0)) (ltb (getD sent k 0) (getD work k 0)) e)
+pub ready-work : (p : Packets) (t k : ℕ) → readyBy p t k ≡ true → getD (p .sent) k 0 < getD (p .work) k 0
+ready-work p t k e =
+    let short : Bool = ltb (getD (p .sent) k 0) (getD (p .work) k 0) in
+    ltb-true _ _ (and-r (leb (getD (p .start) k 0) t && ltb t (getD (p .due) k 0)) short e)
 
 pub ahead-by : (s : FlowSet) (st : State) (due : List ℕ) → ((k : ℕ) → getD due k 0 ≡ dueAt s st k) → aheadBy due ≡ ahead s st
 ahead-by s st due h = ap by (fun-ext h)
@@ -134,10 +141,9 @@ ahead-by s st due h = ap by (fun-ext h)
     by : (ℕ → ℕ) → ℕ → ℕ → Bool
     by f k l = ltb (f k) (f l) || (eqb (f k) (f l) && ltb k l)
 
-pub ready-by : (s : FlowSet) (st : State) (start deadline work due sent : List ℕ) → Columns s start deadline work → Packets s st due sent
-    → readyBy start due sent work (st .slot .0) ≡ readyAt s st
-ready-by s st start deadline work due sent t v =
-    fun-ext (λ k. rw (t .starts k, v .dues k, v .hads k, t .works k) (ready-is (flowAt s k) (st .slot .0) (countAt st k)))
+pub ready-by : (s : FlowSet) (st : State) (p : Packets) (deadline : List ℕ) → PacketsHold s st p deadline → readyBy p (st .slot .0) ≡ readyAt s st
+ready-by s st p deadline h =
+    fun-ext (λ k. rw (h .starts k, h .dues k, h .hads k, h .works k) (ready-is (flowAt s k) (st .slot .0) (countAt st k)))
 
 -- what the record check's acceptance says of the record itself
 pub accepted-count : (s : FlowSet) → good (recordFault (used s) .refusal) ≡ true → s .count ≤ mostFlows

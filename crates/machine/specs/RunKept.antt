@@ -6,11 +6,11 @@ use Rattle.model.specs.declared.kinds.FlowSet.{FlowSet}
 use Rattle.model.specs.declared.answers.Ran.{Ran}
 use Rattle.model.specs.Limits.{mostChannels, lastSlot}
 use Rattle.model.specs.Sets.{used}
-use Rattle.document.specs.Machine.{runOf}
+use Rattle.document.specs.Machine.{ahead, runOf}
 use Rattle.machine.specs.States.{run-cut}
 use Rattle.promise.specs.Demand.{Admitted, admitted-good, run-keeps}
 
 pub never-drops : (s : FlowSet) → s .map .0 ≤ 65535 → (budget : ℕ) → Admitted (used s) → runOf (used s) budget .dropped ≡ 0
 never-drops s w budget a =
     let h : s .map .0 < 2 ^ mostChannels = omega (arith, w) in
-    ap (λ (r : Ran). r .dropped) (run-cut (used s) (admitted-good (used s) a) budget) ∙ run-keeps s h a (min budget lastSlot) (omega arith)
+    ap (λ (r : Ran). r .dropped) (run-cut ahead (used s) (admitted-good (used s) a) budget) ∙ run-keeps s h a (min budget lastSlot) (omega arith)

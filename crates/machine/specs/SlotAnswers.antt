@@ -20,29 +20,36 @@ use Rattle.model.specs.Sums.{bit}
 use Rattle.model.specs.Sets.{flowAt, memb, filterTo, work}
 use Rattle.document.specs.Machine.{releaseAt, countAt, hadAt, radioChannel, sendOf, sendsFrom, deliveriesOf, filled, noSend, noDelivery, countWith, deliveredWith, droppedWith, nextWith, Priority, placedWith}
 use Rattle.machine.specs.ArrayLists.{Through, is-listTo, filled-put, filter-hit}
-use Rattle.machine.specs.PacketNumbers.{Columns, Packets, next-is}
+use Rattle.machine.specs.LentArrays.{Links, Packets}
+use Rattle.machine.specs.LinkColumns.{fromAt, endAt}
+use Rattle.machine.specs.PacketNumbers.{PacketsHold, next-is}
 use Rattle.machine.specs.ReadyOrder.{Each}
 use Rattle.machine.specs.PlacedChoice.{Choice, placed-ready}
 
--- the transmission of flow k with n had, at this offset
-abbrev pub sendIn : ℕ → Slot → List ℕ → List (List ℕ) → ℕ → ℕ → ℕ → Send
-sendIn m t tries routes k n o =
+-- rule 5: the transmission of flow k, whose packet has had n, at an offset
+abbrev pub sendIn : ℕ → Slot → Links → ℕ → ℕ → ℕ → Send
+sendIn m t links k n o =
     record {
       slot = t;
       flow = k;
-      from = getD (getD routes k []) (n / getD tries k 0) 0;
-      to = getD (getD routes k []) (n / getD tries k 0 + 1) 0;
-      attempt = n % getD tries k 0;
+      from = fromAt links k n;
+      to = endAt links k n 1;
+      attempt = n % getD (links .tries) k 0;
       offset = o;
       channel = radioChannel m (t .0) o;
     }
+
+-- the same by the counts of an array
+abbrev pub sendBy : ℕ → Slot → Links → List ℕ → ℕ → ℕ → Send
+sendBy m t links sent k o = sendIn m t links k (getD sent k 0) o
 
 -- the placed flows' transmissions, each at the next offset
 unfoldable pub sendsOf : (ℕ → ℕ → Send) → ℕ → List ℕ → List Send
 sendsOf send o [] = []
 sendsOf send o (k ∷ ks) = send k o ∷ sendsOf send (o + 1) ks
 
-pub sends-more : (send : ℕ → ℕ → Send) (o : ℕ) (ks : List ℕ) (k : ℕ) → sendsOf send o (ks ++ (k ∷ [])) ≡ sendsOf send o ks ++ (send k (o + length ks) ∷ [])
+pub sends-more : (send : ℕ → ℕ → Send) (o : ℕ) (ks : List ℕ) (k : ℕ)
+    → sendsOf send o (ks ++ (k ∷ [])) ≡ sendsOf send o ks ++ (send k (o + length ks) ∷ [])
 unfolding sendsOf
 sends-more send o [] k = rw add-zero
 sends-more send o (x ∷ ks) k =
@@ -67,9 +74,16 @@ unfolding sendsFrom
 length-from s st o [] = refl
 length-from s st o (k ∷ ks) = ap suc (length-from s st (o + 1) ks)
 
--- delivered and dropped, by arrays
+-- the array of a slot's sends
+abbrev pub sendArray : (ℕ → ℕ → Send) → List ℕ → List Send
+sendArray send ks = filled mostChannels noSend (sendsOf send 0 ks)
+
+-- rule 6 by arrays: flow k's packet is delivered, and the flows whose packets are
 abbrev pub deliveredBy : List ℕ → List ℕ → List ℕ → ℕ → Bool
 deliveredBy sent work marked k = eqb (getD marked k 0) 1 && eqb (getD sent k 0 + 1) (getD work k 0)
+
+abbrev pub deliveredTo : List ℕ → List ℕ → List ℕ → ℕ → List ℕ
+deliveredTo sent work marked n = filterTo (deliveredBy sent work marked) n
 
 abbrev pub delayIn : ℕ → ℕ → ℕ → ℕ
 delayIn t due d = t - (due - d) + 1
@@ -93,52 +107,66 @@ unfolding deliveriesBy
 length-deliveries t deadline due [] = refl
 length-deliveries t deadline due (k ∷ ks) = ap suc (length-deliveries t deadline due ks)
 
-abbrev pub droppedBy : ℕ → List ℕ → List ℕ → List ℕ → List ℕ → List ℕ → ℕ → Bool
-droppedBy t start due sent work marked k =
-    leb (getD start k 0) t && eqb (t + 1) (getD due k 0) && ltb (getD sent k 0 + getD marked k 0) (getD work k 0)
+-- the array of a slot's deliveries
+abbrev pub deliveryArray : ℕ → List ℕ → List ℕ → List ℕ → List Delivery
+deliveryArray t deadline due ks = filled mostChannels noDelivery (deliveriesBy t deadline due ks)
+
+-- flow k's packet is dropped, and the flows whose packets are
+abbrev pub droppedBy : ℕ → Packets → List ℕ → ℕ → Bool
+droppedBy t p marked k =
+    leb (getD (p .start) k 0) t && eqb (t + 1) (getD (p .due) k 0) && ltb (getD (p .sent) k 0 + getD marked k 0) (getD (p .work) k 0)
+
+abbrev pub droppedTo : ℕ → Packets → List ℕ → ℕ → List ℕ
+droppedTo t p marked n = filterTo (droppedBy t p marked) n
+
+-- rule 2's next count: what the packet has had, and one more if it was placed
+abbrev pub countBy : List ℕ → List ℕ → ℕ → ℕ
+countBy sent marked k = getD sent k 0 + getD marked k 0
 
 -- a count after the slot
 pub count-after : (first : Priority) (s : FlowSet) (st : State) (k : ℕ) → countWith first s st k ≡ hadAt s st k + bit (memb k (placedWith first s st))
 unfolding countWith
 count-after first s st k = next-is (flowAt s k) (st .slot .0) (countAt st k) (memb k (placedWith first s st)) (λ e. placed-ready first s st k e .1)
 
-module _ (s : FlowSet) (st : State) (start deadline work due sent : List ℕ) (t : Columns s start deadline work) (v : Packets s st due sent) where
-  pub deliveries-by : (ks : List ℕ) → deliveriesBy (st .slot .0) deadline due ks ≡ deliveriesOf s st ks
+module _ (s : FlowSet) (st : State) (p : Packets) (deadline : List ℕ) (h : PacketsHold s st p deadline) where
+  pub deliveries-by : (ks : List ℕ) → deliveriesBy (st .slot .0) deadline (p .due) ks ≡ deliveriesOf s st ks
   unfolding deliveriesBy deliveriesOf
   deliveries-by [] = refl
   deliveries-by (k ∷ ks) =
       ap₂ (λ (x : ℕ) (r : List Delivery). deliveryIn k (st .slot .0 - x + 1) ∷ r) back (deliveries-by ks)
     where
-      back : getD due k 0 - getD deadline k 0 ≡ releaseAt (flowAt s k) (st .slot .0)
-      back = rw (v .dues k, t .deadlines k) (omega arith)
+      back : getD (p .due) k 0 - getD deadline k 0 ≡ releaseAt (flowAt s k) (st .slot .0)
+      back = rw (h .dues k, h .deadlines k) (omega arith)
 
   -- the placed packets in arrays, for any order of priority
   module _ (first : Priority) (chosen marked : List ℕ) (n : ℕ) (c : Choice (placedWith first s st) chosen marked n) where
-    pub delivered-by : deliveredBy sent work marked ≡ deliveredWith first s st
+    pub delivered-by : deliveredBy (p .sent) (p .work) marked ≡ deliveredWith first s st
     unfolding deliveredWith
-    delivered-by = fun-ext (λ k. ap₂ (λ (a b : Bool). a && b) (ap (λ (x : ℕ). eqb x 1) (c .marks k) ∙ one (memb k (placedWith first s st))) (ap₂ (λ (x y : ℕ). eqb (x + 1) y) (v .hads k) (t .works k)))
+    delivered-by =
+        fun-ext (λ k. ap₂ (λ (a b : Bool). a && b) (ap (λ (x : ℕ). eqb x 1) (c .marks k) ∙ one (memb k (placedWith first s st)))
+        (ap₂ (λ (x y : ℕ). eqb (x + 1) y) (h .hads k) (h .works k)))
       where
         one : (b : Bool) → eqb (bit b) 1 ≡ b
         one true = refl
         one false = refl
 
-    pub after-by : (k : ℕ) → getD sent k 0 + getD marked k 0 ≡ countWith first s st k
-    after-by k = ap₂ (λ (x y : ℕ). x + y) (v .hads k) (c .marks k) ∙ sym (count-after first s st k)
+    pub after-by : (k : ℕ) → countBy (p .sent) marked k ≡ countWith first s st k
+    after-by k = ap₂ (λ (x y : ℕ). x + y) (h .hads k) (c .marks k) ∙ sym (count-after first s st k)
 
-    pub dropped-by : droppedBy (st .slot .0) start due sent work marked ≡ droppedWith first s st
+    pub dropped-by : droppedBy (st .slot .0) p marked ≡ droppedWith first s st
     unfolding droppedWith
-    dropped-by = fun-ext (λ k. rw (t .starts k, v .dues k, t .works k, after-by k))
+    dropped-by = fun-ext (λ k. rw (h .starts k, h .dues k, h .works k, after-by k))
 
     -- an array with each flow's next count is the next state's
-    pub next-by : (counts : List ℕ) → length sent ≡ mostFlows → ((k : ℕ) → s .count ≤ k → getD sent k 0 ≡ 0)
-        → Through (λ k. getD sent k 0 + getD marked k 0) (s .count) sent counts → counts ≡ nextWith first s st .sent
+    pub next-by : (counts : List ℕ) → length (p .sent) ≡ mostFlows → ((k : ℕ) → s .count ≤ k → getD (p .sent) k 0 ≡ 0)
+        → Through (countBy (p .sent) marked) (s .count) (p .sent) counts → counts ≡ nextWith first s st .sent
     unfolding nextWith
-    next-by counts l z h =
-        is-listTo (λ k. cond (ltb k (s .count)) (countWith first s st k) 0) mostFlows counts (h .long ∙ l) (λ k i. at k (ltb k (s .count)) refl)
+    next-by counts l z w =
+        is-listTo (λ k. cond (ltb k (s .count)) (countWith first s st k) 0) mostFlows counts (w .long ∙ l) (λ k i. at k (ltb k (s .count)) refl)
       where
         at : (k : ℕ) (b : Bool) → ltb k (s .count) ≡ b → getD counts k 0 ≡ cond b (countWith first s st k) 0
-        at k true e = h .below k (ltb-true _ _ e) ∙ after-by k
-        at k false e = let f = ltb-false _ _ e in h .above k f ∙ z k f
+        at k true e = w .below k (ltb-true _ _ e) ∙ after-by k
+        at k false e = let f = ltb-false _ _ e in w .above k f ∙ z k f
 
 -- a packet that is released, with its deadline to come, within 16 bits
 pub record Delayed (t due d : ℕ) : Type 0 where
@@ -148,10 +176,13 @@ pub record Delayed (t due d : ℕ) : Type 0 where
   pub small : d ≤ 65535
   pub slot-le : t ≤ lastSlot
 
+-- each marked packet is one of these
+abbrev pub MarkedDelayed : ℕ → List ℕ → List ℕ → List ℕ → Type 0
+MarkedDelayed t deadline due marked = (k : ℕ) → getD marked k 0 ≡ 1 → Delayed t (getD due k 0) (getD deadline k 0)
+
 -- the next send of an array
 pub sends-put : (send : ℕ → ℕ → Send) (chosen : List ℕ) (i : ℕ) (array : List Send) (x : Send) → i < mostChannels → i < length chosen
-    → array ≡ filled mostChannels noSend (sendsOf send 0 (take i chosen)) → x ≡ send (getD chosen i 0) i
-    → set array i x ≡ filled mostChannels noSend (sendsOf send 0 (take (i + 1) chosen))
+    → array ≡ sendArray send (take i chosen) → x ≡ send (getD chosen i 0) i → set array i x ≡ sendArray send (take (i + 1) chosen)
 sends-put send chosen i array x h k e f =
     let l : length (sendsOf send 0 (take i chosen)) ≡ i = length-sends send 0 (take i chosen) ∙ length-take-le i chosen (omega arith) in
     let o : 0 + length (take i chosen) ≡ i = omega (arith, length-take-le i chosen (omega arith)) in
@@ -160,12 +191,11 @@ sends-put send chosen i array x h k e f =
     rw w (filled-put mostChannels noSend (sendsOf send 0 (take i chosen)) array i x e (sym l) (rw l h))
 
 -- the next delivery of an array
-pub deliveries-put : (p : ℕ → Bool) (t : ℕ) (deadline due : List ℕ) (k n : ℕ) (array : List Delivery) (x : Delivery) → p k ≡ true → length (filterTo p k) < mostChannels
-    → n ≡ length (filterTo p k) → array ≡ filled mostChannels noDelivery (deliveriesBy t deadline due (filterTo p k))
-    → x ≡ deliveryIn k (delayIn t (getD due k 0) (getD deadline k 0))
-    → set array n x ≡ filled mostChannels noDelivery (deliveriesBy t deadline due (filterTo p (k + 1)))
+pub deliveries-put : (p : ℕ → Bool) (t : ℕ) (deadline due : List ℕ) (k n : ℕ) (array : List Delivery) (x : Delivery) → p k ≡ true
+    → length (filterTo p k) < mostChannels → n ≡ length (filterTo p k) → array ≡ deliveryArray t deadline due (filterTo p k)
+    → x ≡ deliveryIn k (delayIn t (getD due k 0) (getD deadline k 0)) → set array n x ≡ deliveryArray t deadline due (filterTo p (k + 1))
 deliveries-put p t deadline due k n array x h l e f g =
     let d : List ℕ = filterTo p k in
     let m : length (deliveriesBy t deadline due d) ≡ length d = length-deliveries t deadline due d in
     rw (filter-hit p k h, deliveries-more t deadline due d k, g)
-    (filled-put mostChannels noDelivery (deliveriesBy t deadline due d) array n (deliveryIn k (delayIn t (getD due k 0) (getD deadline k 0))) f (e ∙ sym m) (rw m l))
+    (filled-put mostChannels noDelivery (deliveriesBy t deadline due d) array n _ f (e ∙ sym m) (rw m l))

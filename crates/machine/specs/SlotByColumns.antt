@@ -30,21 +30,28 @@ use Rattle.laws.specs.Used.{used-map, used-count, used-flow}
 use Rattle.laws.specs.SumLaws.{and-l, and-r}
 use Rattle.machine.specs.ArrayLists.{Through, through-all, getD-zeros, any-ext, filter-none}
 use Rattle.model.specs.Releases.{release-back}
-use Rattle.machine.specs.PacketNumbers.{dueIn, hadIn, aheadBy, readyBy, Columns, Packets, had-is, ready-work, ready-if, used-none, accepted-count}
-use Rattle.machine.specs.ReadyOrder.{Each, each-at, each-wide, waiting-each, ordered-each, ordered-in, keep, keep-all}
-use Rattle.machine.specs.PlacedChoice.{Choice, linkBy, clashOf, orderedBy, placed-by, place-ext, placed-each, placed-ready, delivered-le}
-use Rattle.machine.specs.LinkColumns.{Routes, linkIn, link-is, link-in-route}
-use Rattle.machine.specs.States.{mostCount, GoodState, count-after-le, fresh-good, good-not-bad, next-good, next-slot, step-good, run-none, run-next}
-use Rattle.machine.specs.SlotAnswers.{sendIn, sendsOf, sends-by, length-from, deliveredBy, deliveriesBy, length-deliveries, droppedBy, deliveries-by, delivered-by, dropped-by, after-by, next-by, Delayed}
+use Rattle.machine.specs.LentArrays.{Numbers, Links, Packets, packetsOf}
+use Rattle.machine.specs.PacketNumbers.{dueIn, hadIn, dueBy, hadBy, aheadBy, readyBy, PacketsHold, had-is, ready-work, ready-if, used-none, accepted-count}
+use Rattle.machine.specs.ReadyOrder.{Each, each-at, each-wide, waiting-each, ordered-each, ordered-in, keep, keep-all, ReadyInOrder, FlowsTo}
+use Rattle.machine.specs.PlacedChoice.{Choice, choiceBy, linkBy, clashOf, orderedBy, placed-by, place-ext, placed-each, placed-ready, delivered-le}
+use Rattle.machine.specs.LinkColumns.{Routes, linkIn, LinksThere, PlacedLinks, link-is, link-in-route}
+use Rattle.machine.specs.States.{badBy, mostCount, GoodState, count-after-le, fresh-good, good-not-bad, next-good, next-slot, step-good, run-none, run-next}
+use Rattle.machine.specs.SlotAnswers.{sendIn, sendBy, sendsOf, sends-by, length-from, deliveredBy, deliveredTo, deliveriesBy, deliveryArray, length-deliveries, droppedBy, droppedTo, countBy, deliveries-by, delivered-by, dropped-by, after-by, next-by, Delayed, MarkedDelayed}
 
--- what looking at each flow in slot t gives
-pub record NumbersAndOrder (count t : ℕ) (start period deadline work sent due order sent′ due′ order′ : List ℕ) (waiting : ℕ) : Type 0 where
-  pub dues : Through (λ k. dueIn (getD start k 0) (getD period k 0) (getD deadline k 0) t) count due due′
-  pub hads : Through (λ k. hadIn (getD due′ k 0) (getD deadline k 0) t (getD sent k 0)) count sent sent′
-  pub in-order : take waiting order′ ≡ ordered (aheadBy due′) (readyBy start due′ sent′ work t) count
-  pub long : length order′ ≡ mostFlows
-  pub few : waiting ≤ mostFlows
-  pub rest : drop waiting order′ ≡ drop waiting order
+-- a set's numbers in arrays: no start, period or deadline of the first n flows exceeds 16 bits
+abbrev pub SmallTo : ℕ → List ℕ → List ℕ → List ℕ → Type 0
+SmallTo n start period deadline = (k : ℕ) → k < n → (getD start k 0 ≤ 65535) × (getD period k 0 ≤ 65535) × (getD deadline k 0 ≤ 65535)
+
+-- an accepted set's numbers in arrays, each within its bounds
+pub record AfterNumbers (s : FlowSet) (numbers : Numbers) : Type 0 where
+  pub good-set : good (recordFault (used s) .refusal) ≡ true
+  pub starts : (k : ℕ) → getD (numbers .start) k 0 ≡ flowAt (used s) k .start
+  pub periods : (k : ℕ) → getD (numbers .period) k 0 ≡ flowAt (used s) k .period .0
+  pub deadlines : (k : ℕ) → getD (numbers .deadline) k 0 ≡ flowAt (used s) k .deadline .0
+  pub works : (k : ℕ) → getD (numbers .work) k 0 ≡ workAt (used s) k
+  pub small-start : (k : ℕ) → getD (numbers .start) k 0 ≤ 65535
+  pub small-period : (k : ℕ) → getD (numbers .period) k 0 ≤ 65535
+  pub small-deadline : (k : ℕ) → getD (numbers .deadline) k 0 ≤ 65535
 
 had-le : (b : Bool) (n : ℕ) → cond b 0 n ≤ n
 had-le true n = zero-le
@@ -69,23 +76,25 @@ none-packet s st g k d =
       n,
     )
 
-pub packets-of : (s : FlowSet) (st : State) (start period deadline work due order due′ sent′ order′ : List ℕ) (waiting : ℕ)
-    → Columns (used s) start deadline work → ((k : ℕ) → getD period k 0 ≡ flowAt (used s) k .period .0) → GoodState (used s) st
-    → ((k : ℕ) → s .count ≤ k → getD due k 0 ≡ 0)
-    → NumbersAndOrder (s .count) (st .slot .0) start period deadline work (st .sent) due order sent′ due′ order′ waiting → Packets (used s) st due′ sent′
-packets-of s st start period deadline work due order due′ sent′ order′ waiting t p g z l = record { dues = dues; hads = hads }
-  where
-    dues : (k : ℕ) → getD due′ k 0 ≡ dueAt (used s) st k
-    dues k = elim (decLe (s .count) k) [
-      | yes d ↦ l .dues .above k d ∙ z k d ∙ sym (none-packet s st g k d .0)
-      | no d ↦ l .dues .below k (omega arith) ∙ rw (t .starts k, p k, t .deadlines k)
-    ]
+-- the arrays that hold each flow's absolute deadline in the slot and what its packet has had
+module _ (s : FlowSet) (st : State) (numbers : Numbers) (due due′ sent′ : List ℕ) (n : AfterNumbers s numbers) (g : GoodState (used s) st)
+    (z : (k : ℕ) → s .count ≤ k → getD due k 0 ≡ 0)
+    (a : Through (dueBy (numbers .start) (numbers .period) (numbers .deadline) (st .slot .0)) (s .count) due due′)
+    (b : Through (hadBy due′ (numbers .deadline) (st .slot .0) (st .sent)) (s .count) (st .sent) sent′) where
+  packets-of : PacketsHold (used s) st (packetsOf (numbers .start) due′ sent′ (numbers .work)) (numbers .deadline)
+  packets-of = record { starts = n .starts; dues = dues; hads = hads; works = n .works; deadlines = n .deadlines }
+    where
+      dues : (k : ℕ) → getD due′ k 0 ≡ dueAt (used s) st k
+      dues k = elim (decLe (s .count) k) [
+        | yes d ↦ a .above k d ∙ z k d ∙ sym (none-packet s st g k d .0)
+        | no d ↦ a .below k (omega arith) ∙ rw (n .starts k, n .periods k, n .deadlines k)
+      ]
 
-    hads : (k : ℕ) → getD sent′ k 0 ≡ hadAt (used s) st k
-    hads k = elim (decLe (s .count) k) [
-      | yes d ↦ l .hads .above k d ∙ none-packet s st g k d .2 ∙ sym (none-packet s st g k d .1)
-      | no d ↦ l .hads .below k (omega arith) ∙ rw (dues k, t .deadlines k) (had-is (flowAt (used s) k) (st .slot .0) (countAt st k))
-    ]
+      hads : (k : ℕ) → getD sent′ k 0 ≡ hadAt (used s) st k
+      hads k = elim (decLe (s .count) k) [
+        | yes d ↦ b .above k d ∙ none-packet s st g k d .2 ∙ sym (none-packet s st g k d .1)
+        | no d ↦ b .below k (omega arith) ∙ rw (dues k, n .deadlines k) (had-is (flowAt (used s) k) (st .slot .0) (countAt st k))
+      ]
 
 -- an answer without a fault
 abbrev pub answerOf : State → ℕ → List Send → ℕ → List Delivery → ℕ → List ℕ → Stepped
@@ -97,67 +106,70 @@ answer-ext : (a b : State) → a ≡ b → {n m : ℕ} → n ≡ m → {l k : Li
 answer-ext a b p q r d e x y i = answerOf (p i) (q i) (r i) (d i) (e i) (x i) (y i)
 
 -- all that a slot's answer is made from
-pub record AfterOrder (s : FlowSet) (st : State) (start deadline work due sent order : List ℕ) (waiting : ℕ) : Type 0 where
+pub record AfterOrder (s : FlowSet) (st : State) (p : Packets) (deadline order : List ℕ) (waiting : ℕ) : Type 0 where
   pub good-set : good (recordFault (used s) .refusal) ≡ true
   pub good-state : GoodState (used s) st
   pub before-last : st .slot .0 < lastSlot
-  pub columns : Columns (used s) start deadline work
-  pub packets : Packets (used s) st due sent
-  pub in-order : keep (readyBy start due sent work (st .slot .0)) (take waiting order) ≡ orderedBy (used s) (st .slot .0) start due sent work
-  pub low : (i : ℕ) → i < waiting → getD order i 0 < mostFlows
+  pub packets : PacketsHold (used s) st p deadline
+  pub in-order : keep (readyBy p (st .slot .0)) (take waiting order) ≡ orderedBy (used s) (st .slot .0) p
+  pub low : FlowsTo order waiting
   pub few : waiting ≤ mostFlows
   pub long-order : length order ≡ mostFlows
-  pub long-sent : length sent ≡ mostFlows
+  pub long-sent : length (p .sent) ≡ mostFlows
   pub small : (k : ℕ) → getD deadline k 0 ≤ 65535
 
-module _ (s : FlowSet) (st : State) (start deadline work due sent order : List ℕ) (waiting : ℕ) (r : AfterOrder s st start deadline work due sent order waiting) where
+module _ (s : FlowSet) (st : State) (p : Packets) (deadline order : List ℕ) (waiting : ℕ) (r : AfterOrder s st p deadline order waiting) where
   -- a count is at most C, which is at most 64
   work-at-small : (k : ℕ) → k < s .count → workAt (used s) k ≤ 64
   work-at-small k h = work-small (flowAt (used s) k) (accepted (used s) (r .good-set) .flow k (rw (used-count s) h))
 
   -- beyond the last flow a count is 0
-  pub none-sent : (k : ℕ) → s .count ≤ k → getD sent k 0 ≡ 0
+  pub none-sent : (k : ℕ) → s .count ≤ k → getD (p .sent) k 0 ≡ 0
   none-sent k d = r .packets .hads k ∙ none-packet s st (r .good-state) k d .1
 
   -- a count is at most 64
-  pub sent-le : (k : ℕ) → getD sent k 0 ≤ 64
+  pub sent-le : (k : ℕ) → getD (p .sent) k 0 ≤ 64
   sent-le k = elim (decLe (s .count) k) [
     | yes d ↦ omega (arith, none-sent k d)
     | no d ↦
         let w = g .counts k in
         let l : mostCount (used s) k ≡ workAt (used s) k = rw (lt-ltb k (used s .count) (rw (used-count s) (omega arith))) in
-        omega (arith, w, l, work-at-small k (omega arith), r .packets .hads k, had-le (eqb (st .slot .0) (releaseAt (flowAt (used s) k) (st .slot .0))) (countAt st k))
+        let h = had-le (eqb (st .slot .0) (releaseAt (flowAt (used s) k) (st .slot .0))) (countAt st k) in
+        omega (arith, w, l, h, work-at-small k (omega arith), r .packets .hads k)
   ]
     where
       g : GoodState (used s) st
       g = r .good-state
 
-  module _ (tries : List ℕ) (routes : List (List ℕ)) (w : Routes s tries routes) where
+  module _ (links : Links) (w : Routes s links) where
     -- the ready are short of their C, so their links are those of the arrays
-    pub ready-short : (k : ℕ) → getD sent k 0 < getD work k 0 → (0 < getD tries k 0) × (getD sent k 0 / getD tries k 0 < mostLinks)
-    ready-short k h = link-in-route s tries routes (r .good-set) w sent k (rw (r .columns .works k) at h)
+    pub ready-short : LinksThere (p .sent) (p .work) links
+    ready-short k h = link-in-route s links (r .good-set) w (p .sent) k (rw (r .packets .works k) at h)
 
-    pub placed-is : place (ways (used s)) (clashOf (linkIn sent tries routes)) [] (keep (readyBy start due sent work (st .slot .0)) (take waiting order))
-        ≡ placedAt (used s) st
+    -- rule 4's choice by the links of the arrays
+    pub placed-is : choiceBy (ways (used s)) (st .slot .0) p (linkIn (p .sent) links) order waiting ≡ placedAt (used s) st
     placed-is =
-        ap (place (ways (used s)) (clashOf (linkIn sent tries routes)) []) (r .in-order)
-        ∙ place-ext Short (ways (used s)) (clashOf (linkIn sent tries routes)) (clashOf (linkBy (used s) sent))
-        (λ k l a b. ap₂ meet (link-is s tries routes (r .good-set) w sent k a) (link-is s tries routes (r .good-set) w sent l b)) [] _ tt
-        (each-wide (λ k. (k < used s .count) × (readyBy start due sent work (st .slot .0) k ≡ true)) Short short (orderedBy (used s) (st .slot .0) start due sent work) (ordered-each (aheadBy due) (readyBy start due sent work (st .slot .0)) (used s .count)))
-        ∙ placed-by (used s) st start deadline work due sent (r .columns) (r .packets)
+        ap (place (ways (used s)) (clashOf (linkIn (p .sent) links)) []) (r .in-order)
+        ∙ place-ext Short (ways (used s)) (clashOf (linkIn (p .sent) links)) (clashOf (linkBy (used s) (p .sent)))
+        (λ k l a b. ap₂ meet (link-is s links (r .good-set) w (p .sent) k a) (link-is s links (r .good-set) w (p .sent) l b)) [] _ tt
+        (each-wide Ready Short short (orderedBy (used s) (st .slot .0) p) (ordered-each (aheadBy (p .due)) (readyBy p (st .slot .0)) (used s .count)))
+        ∙ placed-by (used s) st p deadline (r .packets)
       where
-        Short : ℕ → Type 0
-        Short k = getD sent k 0 < workAt (used s) k
+        Ready : ℕ → Type 0
+        Ready k = (k < used s .count) × (readyBy p (st .slot .0) k ≡ true)
 
-        short : (k : ℕ) → (k < used s .count) × (readyBy start due sent work (st .slot .0) k ≡ true) → Short k
-        short k e = rw (r .columns .works k) at (ready-work start due sent work (st .slot .0) k (e .1))
+        Short : ℕ → Type 0
+        Short k = getD (p .sent) k 0 < workAt (used s) k
+
+        short : (k : ℕ) → Ready k → Short k
+        short k e = rw (r .packets .works k) at (ready-work p (st .slot .0) k (e .1))
 
   -- the placed packets in arrays, for any order of priority
   module _ (first : Priority) (chosen marked : List ℕ) (n : ℕ) (c : Choice (placedWith first (used s) st) chosen marked n) where
-    module _ (tries : List ℕ) (routes : List (List ℕ)) (w : Routes s tries routes) where
+    module _ (links : Links) (w : Routes s links) where
       -- the placed are flows of the set, short of their C
       abbrev Short : ℕ → Type 0
-      Short k = (k < s .count) × (getD sent k 0 < workAt (used s) k)
+      Short k = (k < s .count) × (getD (p .sent) k 0 < workAt (used s) k)
 
       each-short : Each Short (placedWith first (used s) st)
       each-short =
@@ -165,19 +177,18 @@ module _ (s : FlowSet) (st : State) (start deadline work due sent order : List �
           (λ k b. (rw (used-count s) at (b .0), rw (r .packets .hads k) (ready-if (flowAt (used s) k) (st .slot .0) (countAt st k) (b .1) .2)))
           (placedWith first (used s) st) (placed-each first (used s) st)
 
-      pub placed-short : (i : ℕ) → i < n
-          → (getD chosen i 0 < mostFlows) × (0 < getD tries (getD chosen i 0) 0) × (getD sent (getD chosen i 0) 0 / getD tries (getD chosen i 0) 0 < mostLinks)
+      pub placed-short : PlacedLinks (p .sent) links chosen n
       placed-short i h =
           let l : length (take n chosen) ≡ n = length-take-le n chosen (omega (arith, c .few, c .long-chosen)) in
           let b = rw (getD-take n chosen i 0 h) at (each-at Short (take n chosen) (rw (c .list) each-short) i (rw l h)) in
-          let d = link-in-route s tries routes (r .good-set) w sent (getD chosen i 0) (b .1) in
-          (omega (arith, b .0, accepted-count s (r .good-set)), d .0, d .1)
+          (omega (arith, b .0, accepted-count s (r .good-set)), link-in-route s links (r .good-set) w (p .sent) (getD chosen i 0) (b .1))
 
       -- and what they send is what the machine sends
-      send-is : (k o : ℕ) → Short k → sendIn (s .map .0) (st .slot) tries routes k (getD sent k 0) o ≡ sendOf (used s) st k o
+      send-is : (k o : ℕ) → Short k → sendBy (s .map .0) (st .slot) links (p .sent) k o ≡ sendOf (used s) st k o
       unfolding sendOf
       send-is k o h =
-          ap (λ (l : List ℕ). made (s .map .0) l (getD sent k 0 % getD tries k 0)) (link-is s tries routes (r .good-set) w sent k (h .1) ∙ ap (linkOf (flowAt (used s) k)) (r .packets .hads k))
+          ap (λ (l : List ℕ). made (s .map .0) l (getD (p .sent) k 0 % getD (links .tries) k 0))
+          (link-is s links (r .good-set) w (p .sent) k (h .1) ∙ ap (linkOf (flowAt (used s) k)) (r .packets .hads k))
           ∙ ap₂ (λ (m : ChannelMap) (a : ℕ). made (m .0) (linkAt (used s) st k) a) (sym (used-map s)) tried
         where
           made : ℕ → List ℕ → ℕ → Send
@@ -192,18 +203,20 @@ module _ (s : FlowSet) (st : State) (start deadline work due sent order : List �
                 channel = radioChannel m (st .slot .0) o;
               }
 
-          tried : getD sent k 0 % getD tries k 0 ≡ tryOf (flowAt (used s) k) (hadAt (used s) st k)
+          tried : getD (p .sent) k 0 % getD (links .tries) k 0 ≡ tryOf (flowAt (used s) k) (hadAt (used s) st k)
           tried = ap₂ (λ (x y : ℕ). x % y) (r .packets .hads k) (w .tries-are k (h .0) ∙ ap (λ (f : Flow). f .tries) (sym (used-flow s k (h .0))))
 
-      pub sends-is : sendsOf (λ k o. sendIn (s .map .0) (st .slot) tries routes k (getD sent k 0) o) 0 (take n chosen) ≡ sendsWith first (used s) st
+      pub sends-is : sendsOf (sendBy (s .map .0) (st .slot) links (p .sent)) 0 (take n chosen) ≡ sendsWith first (used s) st
       sends-is =
-          ap (sendsOf (λ k o. sendIn (s .map .0) (st .slot) tries routes k (getD sent k 0) o) 0) (c .list)
-          ∙ sends-by Short (used s) st (λ k o. sendIn (s .map .0) (st .slot) tries routes k (getD sent k 0) o) send-is 0 (placedWith first (used s) st) each-short
+          ap (sendsOf (sendBy (s .map .0) (st .slot) links (p .sent)) 0) (c .list)
+          ∙ sends-by Short (used s) st (sendBy (s .map .0) (st .slot) links (p .sent)) send-is 0 (placedWith first (used s) st) each-short
 
-    pub sent-small : (k : ℕ) → getD sent k 0 + getD marked k 0 ≤ 64
+    pub sent-small : (k : ℕ) → countBy (p .sent) marked k ≤ 64
     sent-small k = elim (decLe (s .count) k) [
       | yes d ↦ omega (arith, none-sent k d, c .marks k, out (memb k (placedWith first (used s) st)) refl d)
-      | no d ↦ omega (arith, after-by (used s) st start deadline work due sent (r .columns) (r .packets) first chosen marked n c k, count-after-le first (used s) st (r .good-state) k (rw (used-count s) (omega arith)), work-at-small k (omega arith))
+      | no d ↦
+          let a = after-by (used s) st p deadline (r .packets) first chosen marked n c k in
+          omega (arith, a, count-after-le first (used s) st (r .good-state) k (rw (used-count s) (omega arith)), work-at-small k (omega arith))
     ]
       where
         out : (b : Bool) → memb k (placedWith first (used s) st) ≡ b → s .count ≤ k → bit b ≤ 1
@@ -211,7 +224,7 @@ module _ (s : FlowSet) (st : State) (start deadline work due sent order : List �
         out false e d = zero-le
 
     -- a marked packet was released and its deadline is to come
-    pub marked-delayed : (k : ℕ) → getD marked k 0 ≡ 1 → Delayed (st .slot .0) (getD due k 0) (getD deadline k 0)
+    pub marked-delayed : MarkedDelayed (st .slot .0) deadline (p .due) marked
     marked-delayed k e =
         let f = flowAt (used s) k in
         let t = st .slot .0 in
@@ -219,47 +232,59 @@ module _ (s : FlowSet) (st : State) (start deadline work due sent order : List �
         let w = ready-if f t (countAt st k) (placed-ready first (used s) st k m .1) in
         let b = release-back (f .start) (f .period .0) t (w .0) in
         rw (r .packets .dues k)
-        (rw (r .columns .deadlines k)
-        (record { released = omega arith; begun = omega arith; in-time = w .1; small = rw (r .columns .deadlines k) at (r .small k); slot-le = omega (arith, r .before-last) }))
+        (rw (r .packets .deadlines k)
+        (record {
+          released = omega arith;
+          begun = omega arith;
+          in-time = w .1;
+          small = rw (r .packets .deadlines k) at (r .small k);
+          slot-le = omega (arith, r .before-last);
+        }))
       where
         one : (b : Bool) → bit b ≡ 1 → b ≡ true
         one true h = refl
         one false h = absurd (omega arith)
 
     -- there is room for all deliveries
-    pub delivered-few : length (filterTo (deliveredBy sent work marked) (s .count)) ≤ mostChannels
+    pub delivered-few : length (deliveredTo (p .sent) (p .work) marked (s .count)) ≤ mostChannels
     delivered-few =
-        let e = delivered-by (used s) st start deadline work due sent (r .columns) (r .packets) first chosen marked n c in
+        let e = delivered-by (used s) st p deadline (r .packets) first chosen marked n c in
         let l : length (take n chosen) ≡ n = length-take-le n chosen (omega (arith, c .few, c .long-chosen)) in
         rw e (omega (arith, delivered-le first (used s) st (s .count), ap length (c .list), c .few))
+
+    -- the flows whose packets are delivered and dropped, and the next state
+    abbrev delivered : List ℕ
+    delivered = deliveredTo (p .sent) (p .work) marked (s .count)
+
+    abbrev dropped : List ℕ
+    dropped = droppedTo (st .slot .0) p marked (s .count)
+
+    abbrev next-state : List ℕ → State
+    next-state counts = record { slot = record { 0 = st .slot .0 + 1 }; sent = counts }
 
     -- the arrays' answer is the step's
     pub slot-answer : (list : List Send) (dn : ℕ) (ds : List Delivery) (xn : ℕ) (xs counts : List ℕ)
         → list ≡ filled mostChannels noSend (sendsWith first (used s) st)
-        → dn ≡ length (filterTo (deliveredBy sent work marked) (s .count))
-        → ds ≡ filled mostChannels noDelivery (deliveriesBy (st .slot .0) deadline due (filterTo (deliveredBy sent work marked) (s .count)))
-        → xn ≡ length (filterTo (droppedBy (st .slot .0) start due sent work marked) (s .count))
-        → xs ≡ filled mostFlows 0 (filterTo (droppedBy (st .slot .0) start due sent work marked) (s .count))
-        → Through (λ k. getD sent k 0 + getD marked k 0) (s .count) sent counts
-        → answerOf (record { slot = record { 0 = st .slot .0 + 1 }; sent = counts }) n list dn ds xn xs ≡ stepIfWith first (used s) st true
+        → dn ≡ length delivered → ds ≡ deliveryArray (st .slot .0) deadline (p .due) delivered
+        → xn ≡ length dropped → xs ≡ filled mostFlows 0 dropped
+        → Through (countBy (p .sent) marked) (s .count) (p .sent) counts
+        → answerOf (next-state counts) n list dn ds xn xs ≡ stepIfWith first (used s) st true
     unfolding nextWith
     slot-answer list dn ds xn xs counts a b d e f g =
         let u : FlowSet = used s in
         let q = used-count s in
+        let flows : List ℕ = filterTo (deliveredWith first u st) (u .count) in
         let sn : n ≡ length (sendsWith first u st) =
         sym (length-take-le n chosen (omega (arith, c .few, c .long-chosen))) ∙ ap length (c .list) ∙ sym (length-from u st 0 (placedWith first u st)) in
-        let ks : filterTo (deliveredBy sent work marked) (s .count) ≡ filterTo (deliveredWith first u st) (u .count) =
-        ap₂ filterTo (delivered-by u st start deadline work due sent (r .columns) (r .packets) first chosen marked n c) (sym q) in
-        let dd : deliveriesBy (st .slot .0) deadline due (filterTo (deliveredBy sent work marked) (s .count)) ≡ deliveriesOf u st (filterTo (deliveredWith first u st) (u .count)) =
-        ap (deliveriesBy (st .slot .0) deadline due) ks ∙ deliveries-by u st start deadline work due sent (r .columns) (r .packets) (filterTo (deliveredWith first u st) (u .count)) in
-        let dl : length (filterTo (deliveredBy sent work marked) (s .count)) ≡ length (deliveriesOf u st (filterTo (deliveredWith first u st) (u .count))) =
-        sym (length-deliveries (st .slot .0) deadline due (filterTo (deliveredBy sent work marked) (s .count))) ∙ ap length dd in
-        let xx : filterTo (droppedBy (st .slot .0) start due sent work marked) (s .count) ≡ filterTo (droppedWith first u st) (u .count) =
-        ap₂ filterTo (dropped-by u st start deadline work due sent (r .columns) (r .packets) first chosen marked n c) (sym q) in
+        let ks : delivered ≡ flows = ap₂ filterTo (delivered-by u st p deadline (r .packets) first chosen marked n c) (sym q) in
+        let dd : deliveriesBy (st .slot .0) deadline (p .due) delivered ≡ deliveriesOf u st flows =
+        ap (deliveriesBy (st .slot .0) deadline (p .due)) ks ∙ deliveries-by u st p deadline (r .packets) flows in
+        let dl : length delivered ≡ length (deliveriesOf u st flows) = sym (length-deliveries (st .slot .0) deadline (p .due) delivered) ∙ ap length dd in
+        let xx : dropped ≡ filterTo (droppedWith first u st) (u .count) =
+        ap₂ filterTo (dropped-by u st p deadline (r .packets) first chosen marked n c) (sym q) in
         let nn : counts ≡ nextWith first u st .sent =
-        next-by u st start deadline work due sent (r .columns) (r .packets) first chosen marked n c counts (r .long-sent)
-        (λ k h. none-sent k (rw q at h)) (through-all _ _ _ _ _ (sym q) g) in
-        answer-ext (record { slot = record { 0 = st .slot .0 + 1 }; sent = counts }) (nextWith first u st) (ap (λ (l : List ℕ). record { slot = record { 0 = st .slot .0 + 1 }; sent = l }) nn)
+        next-by u st p deadline (r .packets) first chosen marked n c counts (r .long-sent) (λ k h. none-sent k (rw q at h)) (through-all _ _ _ _ _ (sym q) g) in
+        answer-ext (next-state counts) (nextWith first u st) (ap next-state nn)
         sn a (b ∙ dl) (d ∙ ap (filled mostChannels noDelivery) dd) (e ∙ ap length xx) (f ∙ ap (filled mostFlows 0) xx)
 
 -- a blank array whose first entries are f's reads as f, where f is 0 beyond them
@@ -272,34 +297,41 @@ through-blank f n m new h z k = elim (decLe n k) [
 abbrev workOf : Flow → ℕ
 workOf f = work f
 
--- the arrays of a set's numbers
-pub columns-are : (s : FlowSet) (start deadline work : List ℕ)
-    → Through (λ k. flowAt (used s) k .start) (s .count) (replicate mostFlows 0) start
-    → Through (λ k. flowAt (used s) k .deadline .0) (s .count) (replicate mostFlows 0) deadline
-    → Through (λ k. workAt (used s) k) (s .count) (replicate mostFlows 0) work → Columns (used s) start deadline work
-columns-are s start deadline work a b c =
+-- the arrays that `columns_of` fills are the set's numbers
+pub after-numbers : (s : FlowSet) (numbers : Numbers) → good (recordFault (used s) .refusal) ≡ true
+    → Through (λ k. flowAt (used s) k .start) (s .count) (replicate mostFlows 0) (numbers .start)
+    → Through (λ k. flowAt (used s) k .period .0) (s .count) (replicate mostFlows 0) (numbers .period)
+    → Through (λ k. flowAt (used s) k .deadline .0) (s .count) (replicate mostFlows 0) (numbers .deadline)
+    → Through (λ k. workAt (used s) k) (s .count) (replicate mostFlows 0) (numbers .work)
+    → SmallTo (s .count) (numbers .start) (numbers .period) (numbers .deadline) → AfterNumbers s numbers
+after-numbers s numbers g a b c d m =
     record {
-      starts = through-blank _ (s .count) mostFlows start a (λ k h. ap (λ (f : Flow). f .start) (used-none s k h));
-      deadlines = through-blank _ (s .count) mostFlows deadline b (λ k h. ap (λ (f : Flow). f .deadline .0) (used-none s k h));
-      works = through-blank _ (s .count) mostFlows work c (λ k h. ap workOf (used-none s k h));
+      good-set = g;
+      starts = through-blank _ (s .count) mostFlows (numbers .start) a (λ k h. ap (λ (f : Flow). f .start) (used-none s k h));
+      periods = through-blank _ (s .count) mostFlows (numbers .period) b (λ k h. ap (λ (f : Flow). f .period .0) (used-none s k h));
+      deadlines = through-blank _ (s .count) mostFlows (numbers .deadline) c (λ k h. ap (λ (f : Flow). f .deadline .0) (used-none s k h));
+      works = through-blank _ (s .count) mostFlows (numbers .work) d (λ k h. ap workOf (used-none s k h));
+      small-start = small _ (numbers .start) a (λ k h. m k h .0);
+      small-period = small _ (numbers .period) b (λ k h. m k h .1);
+      small-deadline = small _ (numbers .deadline) c (λ k h. m k h .2);
     }
-
-pub periods-of : (s : FlowSet) (period : List ℕ) → Through (λ k. flowAt (used s) k .period .0) (s .count) (replicate mostFlows 0) period
-    → (k : ℕ) → getD period k 0 ≡ flowAt (used s) k .period .0
-periods-of s period a = through-blank _ (s .count) mostFlows period a (λ k h. ap (λ (f : Flow). f .period .0) (used-none s k h))
+  where
+    small : (f : ℕ → ℕ) (l : List ℕ) → Through f (s .count) (replicate mostFlows 0) l → ((k : ℕ) → k < s .count → getD l k 0 ≤ 65535)
+        → (k : ℕ) → getD l k 0 ≤ 65535
+    small f l t i k = elim (decLe (s .count) k) [ yes h ↦ rw (t .above k h, getD-zeros mostFlows k) zero-le | no h ↦ i k (omega arith) ]
 
 -- 12 by arrays
-pub bad-by : (s : FlowSet) (st : State) (start deadline work : List ℕ) → Columns (used s) start deadline work
-    → (ltb lastSlot (st .slot .0) || anyTo (λ k. ltb (getD work k 0) (countAt st k)) mostFlows) ≡ badState (used s) st
+pub bad-by : (s : FlowSet) (st : State) (numbers : Numbers) → AfterNumbers s numbers → badBy (st .slot .0) (st .sent) (numbers .work) ≡ badState (used s) st
 unfolding badState
-bad-by s st start deadline work t =
+bad-by s st numbers n =
     ap (λ (b : Bool). ltb lastSlot (st .slot .0) || b)
-    (any-ext (λ k. ltb (getD work k 0) (countAt st k)) (λ k. ltb (mostCount (used s) k) (countAt st k)) mostFlows (λ k h. ap (λ (x : ℕ). ltb x (countAt st k)) (most k)))
+    (any-ext (λ k. ltb (getD (numbers .work) k 0) (countAt st k)) (λ k. ltb (mostCount (used s) k) (countAt st k)) mostFlows
+    (λ k h. ap (λ (x : ℕ). ltb x (countAt st k)) (most k)))
   where
-    most : (k : ℕ) → getD work k 0 ≡ mostCount (used s) k
+    most : (k : ℕ) → getD (numbers .work) k 0 ≡ mostCount (used s) k
     most k = elim (decLe (s .count) k) [
-      | yes d ↦ t .works k ∙ ap workOf (used-none s k d) ∙ rw (le-ltb k (used s .count) (rw (used-count s) d))
-      | no d ↦ t .works k ∙ rw (lt-ltb k (used s .count) (rw (used-count s) (omega arith)))
+      | yes d ↦ n .works k ∙ ap workOf (used-none s k d) ∙ rw (le-ltb k (used s .count) (rw (used-count s) d))
+      | no d ↦ n .works k ∙ rw (lt-ltb k (used s .count) (rw (used-count s) (omega arith)))
     ]
 
 -- a slot without a ready packet changes the counts alone
@@ -308,19 +340,20 @@ pub record Idle (st : State) (sent : List ℕ) (a : Stepped) : Type 0 where
   pub none-delivered : a .deliveries ≡ 0
   pub none-dropped : a .drops ≡ 0
 
-pub idle-slot : (s : FlowSet) (st : State) (start deadline work due sent order : List ℕ) (waiting : ℕ) → AfterOrder s st start deadline work due sent order waiting
-    → orderedBy (used s) (st .slot .0) start due sent work ≡ [] → Idle st sent (stepIf (used s) st true)
+pub idle-slot : (s : FlowSet) (st : State) (p : Packets) (deadline order : List ℕ) (waiting : ℕ) → AfterOrder s st p deadline order waiting
+    → orderedBy (used s) (st .slot .0) p ≡ [] → Idle st (p .sent) (stepIf (used s) st true)
 unfolding place anyOf
-idle-slot s st start deadline work due sent order waiting r none =
+idle-slot s st p deadline order waiting r none =
     let b : List ℕ = replicate mostFlows 0 in
     let h : List ℕ = replicate mostChannels 0 in
     let c : Choice (placedAt (used s) st) h b 0 =
-    rw (← placed-by (used s) st start deadline work due sent (r .columns) (r .packets), none)
-    (record { list = refl; marks = marks; few = zero-le; long-chosen = refl; long-marked = refl }) in
-    let d : filterTo (deliveredBy sent work b) (s .count) ≡ [] = filter-none (deliveredBy sent work b) (s .count) (λ k l. rw (getD-zeros mostFlows k)) in
-    let x : filterTo (droppedBy (st .slot .0) start due sent work b) (s .count) ≡ [] =
-    filter-none (droppedBy (st .slot .0) start due sent work b) (s .count) (λ k l. not-dropped k l (droppedBy (st .slot .0) start due sent work b k) refl) in
-    let e = slot-answer s st start deadline work due sent order waiting r ahead h b 0 c _ _ _ _ _ sent refl refl refl refl refl
+    rw (← placed-by (used s) st p deadline (r .packets), none)
+    (record { list = refl; marks = getD-zeros mostFlows; few = zero-le; long-chosen = refl; long-marked = refl }) in
+    let d : deliveredTo (p .sent) (p .work) b (s .count) ≡ [] =
+    filter-none (deliveredBy (p .sent) (p .work) b) (s .count) (λ k l. rw (getD-zeros mostFlows k)) in
+    let x : droppedTo (st .slot .0) p b (s .count) ≡ [] =
+    filter-none (droppedBy (st .slot .0) p b) (s .count) (λ k l. not-dropped k l (droppedBy (st .slot .0) p b k) refl) in
+    let e = slot-answer s st p deadline order waiting r ahead h b 0 c _ _ _ _ _ (p .sent) refl refl refl refl refl
     (record { long = refl; below = λ k l. rw (getD-zeros mostFlows k, add-zero); above = λ k l. refl }) in
     record {
       next-is = ap (λ (a : Stepped). a .next) (sym e);
@@ -328,81 +361,57 @@ idle-slot s st start deadline work due sent order waiting r none =
       none-dropped = ap (λ (a : Stepped). a .drops) (sym e) ∙ ap length x;
     }
   where
-    marks : (k : ℕ) → getD {A = ℕ} (replicate mostFlows 0) k 0 ≡ bit (memb k [])
-    marks k = getD-zeros mostFlows k
-
-    not-dropped : (k : ℕ) → k < s .count → (b : Bool) → droppedBy (st .slot .0) start due sent work (replicate mostFlows 0) k ≡ b → b ≡ false
+    not-dropped : (k : ℕ) → k < s .count → (b : Bool) → droppedBy (st .slot .0) p (replicate mostFlows 0) k ≡ b → b ≡ false
     not-dropped k l false e = refl
     not-dropped k l true e =
         let t = st .slot .0 in
-        let p = leb (getD start k 0) t in
-        let q = eqb (t + 1) (getD due k 0) in
-        let w = and-l (p && q) (ltb (getD sent k 0 + getD {A = ℕ} (replicate mostFlows 0) k 0) (getD work k 0)) e in
-        let i : getD sent k 0 + getD {A = ℕ} (replicate mostFlows 0) k 0 < getD work k 0 =
-        ltb-true _ _ (and-r (p && q) (ltb (getD sent k 0 + getD {A = ℕ} (replicate mostFlows 0) k 0) (getD work k 0)) e) in
-        let u = eqb-true (t + 1) (getD due k 0) (and-r p q w) in
-        let y : readyBy start due sent work t k ≡ true =
-        rw (and-l p q w, lt-ltb t (getD due k 0) (omega arith), lt-ltb (getD sent k 0) (getD work k 0) (omega (arith, getD-zeros mostFlows k))) in
-        let z = ordered-in (aheadBy due) (readyBy start due sent work t) (used s .count) k (rw (used-count s) l) y in
+        let a = leb (getD (p .start) k 0) t in
+        let q = eqb (t + 1) (getD (p .due) k 0) in
+        let short : Bool = ltb (countBy (p .sent) (replicate mostFlows 0) k) (getD (p .work) k 0) in
+        let w = and-l (a && q) short e in
+        let i : countBy (p .sent) (replicate mostFlows 0) k < getD (p .work) k 0 = ltb-true _ _ (and-r (a && q) short e) in
+        let u = eqb-true (t + 1) (getD (p .due) k 0) (and-r a q w) in
+        let v = lt-ltb (getD (p .sent) k 0) (getD (p .work) k 0) (omega (arith, getD-zeros mostFlows k)) in
+        let y : readyBy p t k ≡ true = rw (and-l a q w, lt-ltb t (getD (p .due) k 0) (omega arith), v) in
+        let z = ordered-in (aheadBy (p .due)) (readyBy p t) (used s .count) k (rw (used-count s) l) y in
         absurd (omega (arith, ap length none))
 
--- an accepted set's numbers in arrays, each within its bounds
-pub record AfterNumbers (s : FlowSet) (start period deadline work : List ℕ) : Type 0 where
-  pub good-set : good (recordFault (used s) .refusal) ≡ true
-  pub columns : Columns (used s) start deadline work
-  pub periods : (k : ℕ) → getD period k 0 ≡ flowAt (used s) k .period .0
-  pub small-start : (k : ℕ) → getD start k 0 ≤ 65535
-  pub small-period : (k : ℕ) → getD period k 0 ≤ 65535
-  pub small-deadline : (k : ℕ) → getD deadline k 0 ≤ 65535
+-- what the releases and the deadlines of a flow ask of its numbers
+pub numbers-fit : (s : FlowSet) (numbers : Numbers) → AfterNumbers s numbers → (k : ℕ) → k < s .count → 0 < getD (numbers .period) k 0
+numbers-fit s numbers n k h = rw (n .periods k) (accepted (used s) (n .good-set) .flow k (rw (used-count s) h) .period-pos)
 
-pub prepared : (s : FlowSet) (start period deadline work : List ℕ) → good (recordFault (used s) .refusal) ≡ true
-    → Through (λ k. flowAt (used s) k .start) (s .count) (replicate mostFlows 0) start
-    → Through (λ k. flowAt (used s) k .period .0) (s .count) (replicate mostFlows 0) period
-    → Through (λ k. flowAt (used s) k .deadline .0) (s .count) (replicate mostFlows 0) deadline
-    → Through (λ k. workAt (used s) k) (s .count) (replicate mostFlows 0) work
-    → ((k : ℕ) → k < s .count → (getD start k 0 ≤ 65535) × (getD period k 0 ≤ 65535) × (getD deadline k 0 ≤ 65535)) → AfterNumbers s start period deadline work
-prepared s start period deadline work g a b c d m =
-    record {
-      good-set = g;
-      columns = columns-are s start deadline work a c d;
-      periods = periods-of s period b;
-      small-start = λ k. elim (decLe (s .count) k) [ yes h ↦ rw (a .above k h, getD-zeros mostFlows k) zero-le | no h ↦ m k (omega arith) .0 ];
-      small-period = λ k. elim (decLe (s .count) k) [ yes h ↦ rw (b .above k h, getD-zeros mostFlows k) zero-le | no h ↦ m k (omega arith) .1 ];
-      small-deadline = λ k. elim (decLe (s .count) k) [ yes h ↦ rw (c .above k h, getD-zeros mostFlows k) zero-le | no h ↦ m k (omega arith) .2 ];
-    }
-
--- what a look at the flows asks
-pub numbers-fit : (s : FlowSet) (start period deadline work : List ℕ) → AfterNumbers s start period deadline work
-    → (k : ℕ) → k < s .count → (0 < getD period k 0) × (getD start k 0 ≤ 65535) × (getD deadline k 0 ≤ 65535)
-numbers-fit s start period deadline work p k h =
-    (rw (p .periods k) (accepted (used s) (p .good-set) .flow k (rw (used-count s) h) .period-pos), p .small-start k, p .small-deadline k)
-
--- and what it leaves
-pub order-of : (s : FlowSet) (st : State) (start period deadline work due order sent′ due′ order′ : List ℕ) (waiting : ℕ) → AfterNumbers s start period deadline work
+-- once the ready packets are in their order, all is there that the slot's answer is made from
+pub after-order : (s : FlowSet) (st : State) (numbers : Numbers) (due due′ sent′ old order : List ℕ) (waiting : ℕ) → AfterNumbers s numbers
     → GoodState (used s) st → st .slot .0 < lastSlot → ((k : ℕ) → s .count ≤ k → getD due k 0 ≡ 0)
-    → NumbersAndOrder (s .count) (st .slot .0) start period deadline work (st .sent) due order sent′ due′ order′ waiting
-    → AfterOrder s st start deadline work due′ sent′ order′ waiting
-order-of s st start period deadline work due order sent′ due′ order′ waiting p g h z l =
+    → Through (dueBy (numbers .start) (numbers .period) (numbers .deadline) (st .slot .0)) (s .count) due due′
+    → Through (hadBy due′ (numbers .deadline) (st .slot .0) (st .sent)) (s .count) (st .sent) sent′
+    → ReadyInOrder (s .count) (st .slot .0) due′ (packetsOf (numbers .start) due′ sent′ (numbers .work)) old order waiting
+    → AfterOrder s st (packetsOf (numbers .start) due′ sent′ (numbers .work)) (numbers .deadline) order waiting
+after-order s st numbers due due′ sent′ old order waiting n g h z a b l =
     record {
-      good-set = p .good-set;
+      good-set = n .good-set;
       good-state = g;
       before-last = h;
-      columns = p .columns;
-      packets = packets-of s st start period deadline work due order due′ sent′ order′ waiting (p .columns) (p .periods) g z l;
-      in-order = ap (keep ready) (l .in-order) ∙ keep-all ready (ordered (aheadBy due′) ready (s .count)) all
-          ∙ ap (ordered (aheadBy due′) ready) (sym (used-count s));
-      low = λ i h. omega (arith, waiting-each (aheadBy due′) ready (s .count) order′ waiting (omega (arith, l .few, l .long)) (l .in-order) i h .0, accepted-count s (p .good-set));
+      packets = packets-of s st numbers due due′ sent′ n g z a b;
+      in-order = ap (keep ready) (l .in-order) ∙ keep-all ready ready-order all ∙ ap (ordered (aheadBy due′) ready) (sym (used-count s));
+      low = λ i h. omega (arith, each i h .0, accepted-count s (n .good-set));
       few = l .few;
       long-order = l .long;
-      long-sent = l .hads .long ∙ g .long;
-      small = p .small-deadline;
+      long-sent = b .long ∙ g .long;
+      small = n .small-deadline;
     }
   where
     ready : ℕ → Bool
-    ready = readyBy start due′ sent′ work (st .slot .0)
+    ready = readyBy (packetsOf (numbers .start) due′ sent′ (numbers .work)) (st .slot .0)
 
-    all : Each (λ k. ready k ≡ true) (ordered (aheadBy due′) ready (s .count))
-    all = each-wide (λ k. (k < s .count) × (ready k ≡ true)) (λ k. ready k ≡ true) (λ k e. e .1) (ordered (aheadBy due′) ready (s .count)) (ordered-each (aheadBy due′) ready (s .count))
+    ready-order : List ℕ
+    ready-order = ordered (aheadBy due′) ready (s .count)
+
+    all : Each (λ k. ready k ≡ true) ready-order
+    all = each-wide (λ k. (k < s .count) × (ready k ≡ true)) (λ k. ready k ≡ true) (λ k e. e .1) ready-order (ordered-each (aheadBy due′) ready (s .count))
+
+    each : (i : ℕ) → i < waiting → (getD order i 0 < s .count) × (ready (getD order i 0) ≡ true)
+    each = waiting-each (aheadBy due′) ready (s .count) order waiting (omega (arith, l .few, l .long)) (l .in-order)
 
 -- a run as far as slot t
 pub record RanTo (s : FlowSet) (fault : Fault) (st : State) (delivered dropped t : ℕ) : Type 0 where
@@ -412,7 +421,7 @@ pub record RanTo (s : FlowSet) (fault : Fault) (st : State) (delivered dropped t
 
 pub ran-none : (s : FlowSet) (fault : Fault) (st : State) → fault ≡ recordFault (used s) → st ≡ freshState → RanTo s fault st 0 0 0
 ran-none s fault st e f =
-    rw (e, f) (record { run-is = run-none (used s); good-state = fresh-good (used s); slot-is = refl })
+    rw (e, f) (record { run-is = run-none ahead (used s); good-state = fresh-good (used s); slot-is = refl })
 
 -- one slot more
 pub ran-next : (s : FlowSet) (fault : Fault) (st : State) (d x t : ℕ) → good (recordFault (used s) .refusal) ≡ true → t < lastSlot
@@ -428,7 +437,7 @@ ran-next s fault st d x t g l r next e o a b c =
     record {
       run-is = k;
       good-state = rw (← a) (next-good ahead u st (r .good-state) h);
-      slot-is = rw (← a) (next-slot u st ∙ rw (r .slot-is));
+      slot-is = rw (← a) (next-slot ahead u st ∙ rw (r .slot-is));
     }
 
 pub ran-idle : (s : FlowSet) (fault : Fault) (st : State) (d x t : ℕ) → good (recordFault (used s) .refusal) ≡ true → t < lastSlot

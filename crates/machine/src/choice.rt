@@ -6,16 +6,17 @@ ghost use Prim.Native.Nat.{_%_, _+_, _-_, _/_, _<_, _≤_, ℕ};
 ghost use Rattle.model.specs.Sets.{meet};
 ghost use lib.ListN.{drop, getD, length, set, take};
 ghost use Rattle.model.specs.Limits.{mostChannels, mostFlows, mostLinks};
-ghost use Rattle.machine.specs.PlacedChoice.{Choice, OneMore, clashEnds, clashOf};
-ghost use Rattle.machine.specs.LinkColumns.{Busy, linkIn};
+ghost use Rattle.machine.specs.LentArrays.{PerFlow, PerPlaced, linksAt, linksOf, packetsAt, placingAfter, placingAt};
+ghost use Rattle.machine.specs.PlacedChoice.{Choice, choiceBy, clashEnds, placeIf};
+ghost use Rattle.machine.specs.LinkColumns.{Busy, LinkThere, LinksThere, endAt, fromAt, linkIn};
 ghost use mathlib.Core.Bool.{not};
 ghost use Rattle.machine.specs.PacketNumbers.{readyBy};
-ghost use Rattle.machine.specs.PlacedIfReady.{PlacedIfReady};
-ghost use Rattle.document.specs.Machine.{place};
-ghost use Rattle.machine.specs.ReadyOrder.{keep};
+ghost use Rattle.machine.specs.PlacedIfReady.{judge};
+ghost use Rattle.machine.specs.ReadyOrder.{FlowsTo};
 use crate::packets::is_ready;
 use model::ChannelMap;
 use model::Flow;
+use model::Slot;
 
 // The two ends of a link.
 pub struct Ends {
@@ -56,8 +57,8 @@ pub fn ends_of(
     tries: &[u16; Flow::MOST],
     routes: &[[u16; Flow::MOST_NODES]; Flow::MOST],
 ) -> Ends
-    requires { ⌜ (k < mostFlows) × (0 < getD (now tries) k 0) × (n / getD (now tries) k 0 < mostLinks) ⌝ }
-    ensures { λ r. ⌜ (r .from ≡ getD (getD (now (routes .entry)) k []) (n / getD (now (tries .entry)) k 0) 0) × (r .to ≡ getD (getD (now (routes .entry)) k []) (n / getD (now (tries .entry)) k 0 + 1) 0) ⌝ }
+    requires { ⌜ (k < mostFlows) × LinkThere (linksOf (now tries) (now routes)) k n ⌝ }
+    ensures { λ r. ⌜ (r .from ≡ fromAt (linksAt tries routes) k n) × (r .to ≡ endAt (linksAt tries routes) k n 1) ⌝ }
 {
     let i = ((n as u16) / tries[k]) as usize;
     let j = i + 1;
@@ -123,8 +124,9 @@ fn place_if_free(
     chosen: &mut [usize; ChannelMap::MOST],
     marked: &mut [u8; Flow::MOST],
 ) -> usize
-    requires { ⌜ (k < mostFlows) × (placed < mostChannels) × Busy (now busy) (now from) (now to) placed × (length (now from) ≡ mostChannels) × (length (now to) ≡ mostChannels) ⌝ }
-    ensures one { λ r. ⌜ OneMore (not (clashEnds (a .from) (a .to) (now (from .entry)) (now (to .entry)) placed)) k (a .from) (a .to) placed (now (from .entry)) (now (to .entry)) (now (chosen .entry)) (now (marked .entry)) (now (from .exit)) (now (to .exit)) (now (chosen .exit)) (now (marked .exit)) r ⌝ }
+    requires { ⌜ (k < mostFlows) × (placed < mostChannels) × Busy (now busy) (now from) (now to) placed × PerPlaced (now from) × PerPlaced (now to) ⌝ }
+    ensures one { λ r. ⌜ placingAfter from to chosen marked r ≡ placeIf
+        (not (clashEnds (a .from) (a .to) (now (from .entry)) (now (to .entry)) placed)) k (a .from) (a .to) (placingAt from to chosen marked placed) ⌝ }
     ensures busy { λ r. ⌜ Busy (now (busy .exit)) (now (from .exit)) (now (to .exit)) r ⌝ }
 {
     if shares_with_placed(a, from, to, busy, placed) {
@@ -155,12 +157,13 @@ fn place_if_ready(
     chosen: &mut [usize; ChannelMap::MOST],
     marked: &mut [u8; Flow::MOST],
 ) -> usize
-    requires { ⌜ (k < mostFlows) × (placed < mostChannels) × Busy (now busy) (now from) (now to) placed × (length (now from) ≡ mostChannels) × (length (now to) ≡ mostChannels) ⌝ }
-    requires { ⌜ (getD (now sent) k 0 < getD (now work) k 0 → (0 < getD (now tries) k 0) × (getD (now sent) k 0 / getD (now tries) k 0 < mostLinks)) ⌝ }
-    ensures one { λ r. ⌜ PlacedIfReady (now (sent .entry)) (now (tries .entry)) (now (routes .entry)) (readyBy (now (start .entry)) (now (due .entry)) (now (sent .entry)) (now (work .entry)) t k) k placed (now (from .entry)) (now (to .entry)) (now (chosen .entry)) (now (marked .entry)) (now (from .exit)) (now (to .exit)) (now (chosen .exit)) (now (marked .exit)) r ⌝ }
+    requires { ⌜ (k < mostFlows) × (placed < mostChannels) × Busy (now busy) (now from) (now to) placed × PerPlaced (now from) × PerPlaced (now to) ⌝ }
+    requires { ⌜ (getD (now sent) k 0 < getD (now work) k 0 → LinkThere (linksOf (now tries) (now routes)) k (getD (now sent) k 0)) ⌝ }
+    ensures one { λ r. ⌜ placingAfter from to chosen marked r ≡ judge
+        (now (sent .entry)) (linksAt tries routes) (readyBy (packetsAt start due sent work) t k) k (placingAt from to chosen marked placed) ⌝ }
     ensures busy { λ r. ⌜ Busy (now (busy .exit)) (now (from .exit)) (now (to .exit)) r ⌝ }
 {
-    if is_ready(start[k], due[k], sent[k], work[k], t) {
+    if is_ready(Slot(start[k]), Slot(due[k]), sent[k], work[k], Slot(t)) {
         let a = ends_of(k, sent[k], tries, routes);
         return place_if_free(k, a, placed, from, to, busy, chosen, marked);
     }
@@ -183,11 +186,13 @@ pub fn choose(
     chosen: &mut [usize; ChannelMap::MOST],
     marked: &mut [u8; Flow::MOST],
 ) -> usize
-    requires { ⌜ (ways ≤ mostChannels) × (waiting ≤ mostFlows) × (length (now order) ≡ mostFlows) × (length (now chosen) ≡ mostChannels) × (length (now marked) ≡ mostFlows) ⌝ }
+    requires { ⌜ (ways ≤ mostChannels) × (waiting ≤ mostFlows) × PerFlow (now order) × PerPlaced (now chosen) × PerFlow (now marked) ⌝ }
     requires { ⌜ ((k : ℕ) → getD (now marked) k 0 ≡ 0) ⌝ }
-    requires { ⌜ ((i : ℕ) → i < waiting → getD (now order) i 0 < mostFlows) ⌝ }
-    requires { ⌜ ((k : ℕ) → getD (now sent) k 0 < getD (now work) k 0 → (0 < getD (now tries) k 0) × (getD (now sent) k 0 / getD (now tries) k 0 < mostLinks)) ⌝ }
-    ensures { λ r. ⌜ Choice (place ways (clashOf (linkIn (now (sent .entry)) (now (tries .entry)) (now (routes .entry)))) [] (keep (readyBy (now (start .entry)) (now (due .entry)) (now (sent .entry)) (now (work .entry)) t) (take waiting (now (order .entry))))) (now (chosen .exit)) (now (marked .exit)) r × (drop r (now (chosen .exit)) ≡ drop r (now (chosen .entry))) ⌝ }
+    requires { ⌜ FlowsTo (now order) waiting ⌝ }
+    requires { ⌜ LinksThere (now sent) (now work) (linksOf (now tries) (now routes)) ⌝ }
+    ensures { λ r. ⌜ Choice (choiceBy ways t (packetsAt start due sent work) (linkIn (now (sent .entry)) (linksAt tries routes)) (now (order .entry)) waiting)
+        (now (chosen .exit)) (now (marked .exit)) r ⌝ }
+    ensures rest { λ r. ⌜ drop r (now (chosen .exit)) ≡ drop r (now (chosen .entry)) ⌝ }
 {
     let mut from = [0u16; ChannelMap::MOST];
     let mut to = [0u16; ChannelMap::MOST];

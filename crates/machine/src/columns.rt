@@ -9,8 +9,10 @@ ghost use Rattle.document.specs.Reader.{recordFault};
 ghost use Rattle.model.specs.Sets.{flowAt, used};
 ghost use Rattle.document.specs.Delay.{workAt};
 ghost use Rattle.machine.specs.ArrayLists.{Through};
+ghost use Rattle.machine.specs.LentArrays.{PerFlow, linksOf};
 ghost use Rattle.machine.specs.LinkColumns.{Routes};
-ghost use Rattle.machine.specs.PacketNumbers.{dueIn, hadIn};
+ghost use Rattle.machine.specs.PacketNumbers.{dueBy, hadBy};
+ghost use Rattle.machine.specs.SlotByColumns.{SmallTo};
 use crate::packets::absolute_deadline;
 use crate::packets::had_of;
 use model::Flow;
@@ -25,7 +27,7 @@ fn put_route(
     tries: &mut [u16; Flow::MOST],
     routes: &mut [[u16; Flow::MOST_NODES]; Flow::MOST],
 )
-    requires { ⌜ (k < mostFlows) × (length (now tries) ≡ mostFlows) × (length (now routes) ≡ mostFlows) ⌝ }
+    requires { ⌜ (k < mostFlows) × PerFlow (now tries) × PerFlow (now routes) ⌝ }
     ensures tries { λ r. ⌜ now (tries .exit) ≡ set (now (tries .entry)) k (f .tries) ⌝ }
     ensures routes { λ r. ⌜ now (routes .exit) ≡ set (now (routes .entry)) k (f .route) ⌝ }
     ensures long { λ r. ⌜ length (f .route) ≡ mostNodes ⌝ }
@@ -46,13 +48,13 @@ pub fn columns_of(
     routes: &mut [[u16; Flow::MOST_NODES]; Flow::MOST],
 )
     requires { ⌜ good (recordFault (used s) .refusal) ≡ true ⌝ }
-    requires { ⌜ (length (now start) ≡ mostFlows) × (length (now period) ≡ mostFlows) × (length (now deadline) ≡ mostFlows) × (length (now work) ≡ mostFlows) × (length (now tries) ≡ mostFlows) × (length (now routes) ≡ mostFlows) ⌝ }
+    requires { ⌜ PerFlow (now start) × PerFlow (now period) × PerFlow (now deadline) × PerFlow (now work) × PerFlow (now tries) × PerFlow (now routes) ⌝ }
     ensures starts { λ r. ⌜ Through (λ k. flowAt (used s) k .start) (s .count) (now (start .entry)) (now (start .exit)) ⌝ }
     ensures periods { λ r. ⌜ Through (λ k. flowAt (used s) k .period .0) (s .count) (now (period .entry)) (now (period .exit)) ⌝ }
     ensures deadlines { λ r. ⌜ Through (λ k. flowAt (used s) k .deadline .0) (s .count) (now (deadline .entry)) (now (deadline .exit)) ⌝ }
     ensures works { λ r. ⌜ Through (λ k. workAt (used s) k) (s .count) (now (work .entry)) (now (work .exit)) ⌝ }
-    ensures links { λ r. ⌜ Routes s (now (tries .exit)) (now (routes .exit)) ⌝ }
-    ensures small { λ r. ⌜ ((k : ℕ) → k < s .count → (getD (now (start .exit)) k 0 ≤ 65535) × (getD (now (period .exit)) k 0 ≤ 65535) × (getD (now (deadline .exit)) k 0 ≤ 65535)) ⌝ }
+    ensures links { λ r. ⌜ Routes s (linksOf (now (tries .exit)) (now (routes .exit))) ⌝ }
+    ensures small { λ r. ⌜ SmallTo (s .count) (now (start .exit)) (now (period .exit)) (now (deadline .exit)) ⌝ }
 {
     let count = s.count as usize;
     let mut k = 0;
@@ -77,9 +79,10 @@ pub fn deadlines_in(
     deadline: &[u16; Flow::MOST],
     due: &mut [u32; Flow::MOST],
 )
-    requires { ⌜ (count ≤ mostFlows) × (t ≤ lastSlot) × (length (now due) ≡ mostFlows) ⌝ }
+    requires { ⌜ (count ≤ mostFlows) × (t ≤ lastSlot) × PerFlow (now due) ⌝ }
     requires { ⌜ ((k : ℕ) → k < count → (getD (now start) k 0 ≤ 65535) × (getD (now deadline) k 0 ≤ 65535)) ⌝ }
-    ensures { λ r. ⌜ Through (λ k. dueIn (getD (now (start .entry)) k 0) (getD (now (period .entry)) k 0) (getD (now (deadline .entry)) k 0) t) count (now (due .entry)) (now (due .exit)) ⌝ }
+    ensures { λ r. ⌜ Through (dueBy (now (start .entry)) (now (period .entry)) (now (deadline .entry)) t) count
+        (now (due .entry)) (now (due .exit)) ⌝ }
 {
     let mut k = 0;
     while k < count {
@@ -97,9 +100,10 @@ pub fn restart(
     due: &[u32; Flow::MOST],
     sent: &mut [u8; Flow::MOST],
 )
-    requires { ⌜ (count ≤ mostFlows) × (t ≤ lastSlot) × (length (now sent) ≡ mostFlows) ⌝ }
+    requires { ⌜ (count ≤ mostFlows) × (t ≤ lastSlot) × PerFlow (now sent) ⌝ }
     requires { ⌜ ((k : ℕ) → k < count → getD (now deadline) k 0 ≤ 65535) ⌝ }
-    ensures { λ r. ⌜ Through (λ k. hadIn (getD (now (due .entry)) k 0) (getD (now (deadline .entry)) k 0) t (getD (now (sent .entry)) k 0)) count (now (sent .entry)) (now (sent .exit)) ⌝ }
+    ensures { λ r. ⌜ Through (hadBy (now (due .entry)) (now (deadline .entry)) t (now (sent .entry))) count
+        (now (sent .entry)) (now (sent .exit)) ⌝ }
 {
     let mut k = 0;
     while k < count {

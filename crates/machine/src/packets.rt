@@ -33,13 +33,14 @@ pub fn delay_of(t: Slot, due: Slot, deadline: Span) -> Span
 }
 
 // Rule 2: released, before its absolute deadline, and short of C.
-pub fn is_ready(start: u32, due: u32, sent: u8, work: u8, t: u32) -> bool
-    ensures { λ r. ⌜ r ≡ readyIn start due sent work t ⌝ }
+pub fn is_ready(start: Slot, due: Slot, sent: u8, work: u8, t: Slot) -> bool
+    ensures { λ r. ⌜ r ≡ readyIn (start .0) (due .0) sent work (t .0) ⌝ }
 {
-    if t < start {
+    if t.0 < start.0 {
         return false;
     }
-    if due <= t {
+    let end = due.0;
+    if end <= t.0 {
         return false;
     }
     sent < work

@@ -3,19 +3,20 @@
 ghost use mathlib.Core.Path.{_≡_};
 ghost use Prim.Native.Nat.{_+_, _<_, _≤_, min, ℕ};
 ghost use lib.ListN.{getD, length};
-ghost use Rattle.machine.specs.NextReleases.{Released};
+ghost use Rattle.machine.specs.LentArrays.{PerFlow, numbersAt, packetsOf, releasesAfter, releasesAt, runArraysAfter, runArraysAt};
+ghost use Rattle.machine.specs.NextReleases.{NoneBefore, Released};
 ghost use Rattle.model.specs.Limits.{lastSlot, mostFlows};
-ghost use Rattle.machine.specs.RunSlots.{AfterReleases, WaitingInOrder, numbersOf, runArraysOf};
+ghost use Rattle.machine.specs.RunSlots.{AfterReleases, WaitingInOrder};
 use crate::order::order_ready;
 use model::Flow;
 use model::Slot;
 use model::Span;
 
 // The earlier of two slots.
-fn earlier(a: u32, b: u32) -> u32
-    ensures { λ r. ⌜ r ≡ min a b ⌝ }
+fn earlier(a: Slot, b: Slot) -> Slot
+    ensures { λ r. ⌜ r .0 ≡ min (a .0) (b .0) ⌝ }
 {
-    if a <= b { a } else { b }
+    if a.0 <= b.0 { a } else { b }
 }
 
 // Makes the releases of slot t: each released packet's absolute deadline, its flow's next release, and a count that starts again. Answers
@@ -28,13 +29,13 @@ fn release(
     due: &mut [u32; Flow::MOST],
     next: &mut [u32; Flow::MOST],
     sent: &mut [u8; Flow::MOST],
-) -> u32
-    requires { ⌜ (count ≤ mostFlows) × (t ≤ lastSlot) × (length (now due) ≡ mostFlows) × (length (now next) ≡ mostFlows) × (length (now sent) ≡ mostFlows) ⌝ }
+) -> Slot
+    requires { ⌜ (count ≤ mostFlows) × (t ≤ lastSlot) × PerFlow (now due) × PerFlow (now next) × PerFlow (now sent) ⌝ }
     requires { ⌜ ((k : ℕ) → (getD (now period) k 0 ≤ 65535) × (getD (now deadline) k 0 ≤ 65535)) ⌝ }
-    ensures released { λ r. ⌜ Released count t (now (period .entry)) (now (deadline .entry)) (now (due .entry)) (now (next .entry)) (now (sent .entry)) (now (due .exit)) (now (next .exit)) (now (sent .exit)) ⌝ }
-    ensures soonest { λ r. ⌜ ((k : ℕ) → k < count → r ≤ getD (now (next .exit)) k 0) ⌝ }
+    ensures released { λ r. ⌜ Released count t (now (period .entry)) (now (deadline .entry)) (releasesAt due next sent) (releasesAfter due next sent) ⌝ }
+    ensures soonest { λ r. ⌜ NoneBefore count (r .0) (now (next .exit)) ⌝ }
 {
-    let mut soonest = 4294967295;
+    let mut soonest = Slot(4294967295);
     let mut k = 0;
     while k < count {
         let at = next[k];
@@ -44,10 +45,10 @@ fn release(
             due[k] = end.0;
             next[k] = after.0;
             sent[k] = 0;
-            soonest = earlier(soonest, after.0);
+            soonest = earlier(soonest, after);
             k += 1;
         } else {
-            soonest = earlier(soonest, at);
+            soonest = earlier(soonest, Slot(at));
             k += 1;
         }
     }
@@ -56,7 +57,7 @@ fn release(
 
 // No release comes before `soonest`, and until then the first `waiting` entries of the order hold every ready packet.
 pub struct UntilRelease {
-    pub soonest: u32,
+    pub soonest: Slot,
     pub waiting: usize,
 }
 
@@ -68,20 +69,22 @@ pub fn release_packets(
     period: &[u16; Flow::MOST],
     deadline: &[u16; Flow::MOST],
     work: &[u8; Flow::MOST],
-    soonest: u32,
+    soonest: Slot,
     waiting: usize,
     due: &mut [u32; Flow::MOST],
     next: &mut [u32; Flow::MOST],
     sent: &mut [u8; Flow::MOST],
     order: &mut [usize; Flow::MOST],
 ) -> UntilRelease
-    requires { ⌜ (count ≤ mostFlows) × (t ≤ lastSlot) × (waiting ≤ mostFlows) × (length (now due) ≡ mostFlows) × (length (now next) ≡ mostFlows) × (length (now sent) ≡ mostFlows) × (length (now order) ≡ mostFlows) ⌝ }
+    requires { ⌜ (count ≤ mostFlows) × (t ≤ lastSlot) × (waiting ≤ mostFlows) ⌝ }
+    requires { ⌜ PerFlow (now due) × PerFlow (now next) × PerFlow (now sent) × PerFlow (now order) ⌝ }
     requires { ⌜ ((k : ℕ) → (getD (now period) k 0 ≤ 65535) × (getD (now deadline) k 0 ≤ 65535)) ⌝ }
-    requires { ⌜ ((k : ℕ) → k < count → soonest ≤ getD (now next) k 0) ⌝ }
-    requires { ⌜ (t < soonest → WaitingInOrder count t (now start) (now work) (now due) (now sent) (now order) waiting) ⌝ }
-    ensures { λ r. ⌜ AfterReleases count t (numbersOf (now (start .entry)) (now (period .entry)) (now (deadline .entry)) (now (work .entry))) (runArraysOf (now (due .entry)) (now (next .entry)) (now (sent .entry)) (now (order .entry)) soonest waiting) (runArraysOf (now (due .exit)) (now (next .exit)) (now (sent .exit)) (now (order .exit)) (r .soonest) (r .waiting)) ⌝ }
+    requires { ⌜ NoneBefore count (soonest .0) (now next) ⌝ }
+    requires { ⌜ (t < soonest .0 → WaitingInOrder count t (packetsOf (now start) (now due) (now sent) (now work)) (now order) waiting) ⌝ }
+    ensures { λ r. ⌜ AfterReleases count t (numbersAt start period deadline work)
+        (runArraysAt due next sent order (soonest .0) waiting) (runArraysAfter due next sent order (r .soonest .0) (r .waiting)) ⌝ }
 {
-    if t < soonest {
+    if t < soonest.0 {
         return UntilRelease { soonest, waiting };
     }
     let first = release(count, t, period, deadline, due, next, sent);

@@ -4,15 +4,17 @@ ghost use Prim.Native.Nat.{_+_, _/_, _<_, _≤_, min, ℕ};
 ghost use lib.ListN.{getD, length};
 ghost use Rattle.model.specs.Sets.{filterTo, used};
 ghost use Rattle.machine.specs.ArrayLists.{Through};
-ghost use Rattle.machine.specs.SlotAnswers.{deliveredBy, droppedBy};
+ghost use Rattle.machine.specs.LentArrays.{PerFlow, linksAt, linksOf, numbersAt, numbersOf, packetsAt, runArraysAfter, runArraysAt, runArraysOf};
+ghost use Rattle.machine.specs.ReadyOrder.{FlowsTo};
+ghost use Rattle.machine.specs.SlotAnswers.{countBy, deliveredTo, droppedTo};
 ghost use Rattle.model.specs.Limits.{lastSlot, mostChannels, mostFlows, mostLinks};
 ghost use mathlib.Core.Logic.{_⊎_};
-ghost use Rattle.machine.specs.RunSlots.{AfterSlot, numbersOf, runArraysOf};
+ghost use Rattle.machine.specs.RunSlots.{AfterSlot};
 ghost use Rattle.machine.specs.RunSoFar.{RunOfSome, SlotRuns, SlotsRun};
 ghost use Rattle.machine.specs.SlotByColumns.{AfterNumbers};
 ghost use Rattle.document.specs.Reader.{recordFault};
 ghost use Rattle.document.specs.Machine.{runOf};
-ghost use Rattle.machine.specs.LinkColumns.{Routes};
+ghost use Rattle.machine.specs.LinkColumns.{LinksThere, Routes};
 ghost use mathlib.Core.Bool.{true};
 ghost use Rattle.model.specs.Refusals.{good};
 use crate::choice::choose;
@@ -46,11 +48,11 @@ fn count_and_advance(
     marked: &[u8; Flow::MOST],
     sent: &mut [u8; Flow::MOST],
 ) -> SlotCounts
-    requires { ⌜ (count ≤ mostFlows) × (length (now sent) ≡ mostFlows) ⌝ }
+    requires { ⌜ (count ≤ mostFlows) × PerFlow (now sent) ⌝ }
     requires { ⌜ ((k : ℕ) → (getD (now sent) k 0 ≤ 64) × (getD (now marked) k 0 ≤ 1)) ⌝ }
-    ensures delivered { λ r. ⌜ r .delivered ≡ length (filterTo (deliveredBy (now (sent .entry)) (now (work .entry)) (now (marked .entry))) count) ⌝ }
-    ensures dropped { λ r. ⌜ r .dropped ≡ length (filterTo (droppedBy t (now (start .entry)) (now (due .entry)) (now (sent .entry)) (now (work .entry)) (now (marked .entry))) count) ⌝ }
-    ensures counts { λ r. ⌜ Through (λ k. getD (now (sent .entry)) k 0 + getD (now (marked .entry)) k 0) count (now (sent .entry)) (now (sent .exit)) ⌝ }
+    ensures delivered { λ r. ⌜ r .delivered ≡ length (deliveredTo (now (sent .entry)) (now (work .entry)) (now (marked .entry)) count) ⌝ }
+    ensures dropped { λ r. ⌜ r .dropped ≡ length (droppedTo t (packetsAt start due sent work) (now (marked .entry)) count) ⌝ }
+    ensures counts { λ r. ⌜ Through (countBy (now (sent .entry)) (now (marked .entry))) count (now (sent .entry)) (now (sent .exit)) ⌝ }
 {
     let mut delivered = 0;
     let mut dropped = 0;
@@ -97,11 +99,12 @@ fn count_slot(
     waiting: usize,
     sent: &mut [u8; Flow::MOST],
 ) -> SlotEnd
-    requires { ⌜ (count ≤ mostFlows) × (ways ≤ mostChannels) × (t ≤ lastSlot) × (waiting ≤ mostFlows) × (length (now order) ≡ mostFlows) × (length (now sent) ≡ mostFlows) ⌝ }
-    requires { ⌜ ((i : ℕ) → i < waiting → getD (now order) i 0 < mostFlows) ⌝ }
+    requires { ⌜ (count ≤ mostFlows) × (ways ≤ mostChannels) × (t ≤ lastSlot) × (waiting ≤ mostFlows) × PerFlow (now order) × PerFlow (now sent) ⌝ }
+    requires { ⌜ FlowsTo (now order) waiting ⌝ }
     requires { ⌜ ((k : ℕ) → getD (now sent) k 0 ≤ 64) ⌝ }
-    requires { ⌜ ((k : ℕ) → getD (now sent) k 0 < getD (now work) k 0 → (0 < getD (now tries) k 0) × (getD (now sent) k 0 / getD (now tries) k 0 < mostLinks)) ⌝ }
-    ensures { λ r. ⌜ AfterSlot count t ways (now (start .entry)) (now (due .entry)) (now (work .entry)) (now (tries .entry)) (now (routes .entry)) (now (order .entry)) waiting (now (sent .entry)) (now (sent .exit)) (r .delivered) (r .dropped) (r .waiting) ⌝ }
+    requires { ⌜ LinksThere (now sent) (now work) (linksOf (now tries) (now routes)) ⌝ }
+    ensures { λ r. ⌜ AfterSlot count t ways (packetsAt start due sent work) (linksAt tries routes) (now (order .entry)) waiting
+        (now (sent .exit)) (r .delivered) (r .dropped) (r .waiting) ⌝ }
 {
     let mut chosen = [0usize; ChannelMap::MOST];
     let mut marked = [0u8; Flow::MOST];
@@ -129,14 +132,14 @@ fn count_slot(
 
 // What a run knows after one slot: the soonest release, how many of the order wait, and how many packets the slot delivered and dropped.
 struct SlotRun {
-    soonest: u32,
+    soonest: Slot,
     waiting: usize,
     delivered: u32,
     dropped: u32,
 }
 
 // A slot in which no packet waits delivers and drops nothing.
-fn idle_slot(soonest: u32, waiting: usize) -> SlotRun
+fn idle_slot(soonest: Slot, waiting: usize) -> SlotRun
     ensures { λ r. ⌜ (r .soonest ≡ soonest) × (r .waiting ≡ waiting) × (r .delivered ≡ 0) × (r .dropped ≡ 0) ⌝ }
 {
     SlotRun {
@@ -159,15 +162,17 @@ fn run_slot(
     work: &[u8; Flow::MOST],
     tries: &[u16; Flow::MOST],
     routes: &[[u16; Flow::MOST_NODES]; Flow::MOST],
-    soonest: u32,
+    soonest: Slot,
     waiting: usize,
     due: &mut [u32; Flow::MOST],
     next: &mut [u32; Flow::MOST],
     sent: &mut [u8; Flow::MOST],
     order: &mut [usize; Flow::MOST],
 ) -> SlotRun
-    requires { ⌜ (t < lastSlot) × RunOfSome count ways t (numbersOf (now start) (now period) (now deadline) (now work)) (now tries) (now routes) (runArraysOf (now due) (now next) (now sent) (now order) soonest waiting) ⌝ }
-    ensures { λ r. ⌜ SlotRuns count ways t (numbersOf (now (start .entry)) (now (period .entry)) (now (deadline .entry)) (now (work .entry))) (now (tries .entry)) (now (routes .entry)) (runArraysOf (now (due .entry)) (now (next .entry)) (now (sent .entry)) (now (order .entry)) soonest waiting) (runArraysOf (now (due .exit)) (now (next .exit)) (now (sent .exit)) (now (order .exit)) (r .soonest) (r .waiting)) (r .delivered) (r .dropped) ⌝ }
+    requires { ⌜ (t < lastSlot) × RunOfSome count ways t (numbersOf (now start) (now period) (now deadline) (now work))
+        (linksOf (now tries) (now routes)) (runArraysOf (now due) (now next) (now sent) (now order) (soonest .0) waiting) ⌝ }
+    ensures { λ r. ⌜ SlotRuns count ways t (numbersAt start period deadline work) (linksAt tries routes)
+        (runArraysAt due next sent order (soonest .0) waiting) (runArraysAfter due next sent order (r .soonest .0) (r .waiting)) (r .delivered) (r .dropped) ⌝ }
 {
     let at = release_packets(
         count,
@@ -183,8 +188,9 @@ fn run_slot(
         sent,
         order,
     );
+    let until = at.soonest;
     if at.waiting == 0 {
-        return idle_slot(at.soonest, at.waiting);
+        return idle_slot(until, at.waiting);
     }
     let got = count_slot(
         count,
@@ -200,7 +206,7 @@ fn run_slot(
         sent,
     );
     SlotRun {
-        soonest: at.soonest,
+        soonest: until,
         waiting: got.waiting,
         delivered: got.delivered,
         dropped: got.dropped,
@@ -229,10 +235,12 @@ fn run_all_slots(
     sent: &mut [u8; Flow::MOST],
     order: &mut [usize; Flow::MOST],
 ) -> RunCounts
-    requires { ⌜ (slots ≤ lastSlot) × RunOfSome count ways 0 (numbersOf (now start) (now period) (now deadline) (now work)) (now tries) (now routes) (runArraysOf (now due) (now next) (now sent) (now order) 0 0) ⌝ }
-    ensures { λ r. ⌜ SlotsRun slots count ways (numbersOf (now (start .entry)) (now (period .entry)) (now (deadline .entry)) (now (work .entry))) (now (tries .entry)) (now (routes .entry)) (runArraysOf (now (due .entry)) (now (next .entry)) (now (sent .entry)) (now (order .entry)) 0 0) (now (sent .exit)) (r .delivered) (r .dropped) ⌝ }
+    requires { ⌜ (slots ≤ lastSlot) × RunOfSome count ways 0 (numbersOf (now start) (now period) (now deadline) (now work))
+        (linksOf (now tries) (now routes)) (runArraysOf (now due) (now next) (now sent) (now order) 0 0) ⌝ }
+    ensures { λ r. ⌜ SlotsRun slots count ways (numbersAt start period deadline work) (linksAt tries routes)
+        (runArraysAt due next sent order 0 0) (now (sent .exit)) (r .delivered) (r .dropped) ⌝ }
 {
-    let mut soonest = 0;
+    let mut soonest = Slot(0);
     let mut waiting = 0;
     let mut delivered: u64 = 0;
     let mut dropped: u64 = 0;
@@ -287,7 +295,8 @@ fn run_columns(
     tries: &[u16; Flow::MOST],
     routes: &[[u16; Flow::MOST_NODES]; Flow::MOST],
 ) -> Ran
-    requires { ⌜ AfterNumbers s (now start) (now period) (now deadline) (now work) × Routes s (now tries) (now routes) × (fault ≡ recordFault (used s)) × (end .0 ≤ lastSlot) × (length (now start) ≡ mostFlows) ⌝ }
+    requires { ⌜ AfterNumbers s (numbersOf (now start) (now period) (now deadline) (now work)) × Routes s (linksOf (now tries) (now routes)) ⌝ }
+    requires { ⌜ (fault ≡ recordFault (used s)) × (end .0 ≤ lastSlot) × PerFlow (now start) ⌝ }
     ensures { λ r. ⌜ r ≡ runOf (used s) (end .0) ⌝ }
 {
     let count = s.count as usize;

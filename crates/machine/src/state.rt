@@ -2,12 +2,10 @@
 ghost use mathlib.Core.Path.{_≡_};
 ghost use mathlib.Core.List.{[]};
 ghost use Rattle.document.specs.Machine.{stepped};
-ghost use Prim.Native.Nat.{_<_};
-ghost use lib.ListN.{getD};
-ghost use mathlib.Core.Bool.{_||_, cond};
-ghost use lib.Dec.{leb, ltb};
-ghost use Rattle.model.specs.Sums.{anyTo};
-ghost use Rattle.model.specs.Limits.{lastSlot, mostFlows};
+ghost use mathlib.Core.Bool.{cond};
+ghost use lib.Dec.{leb};
+ghost use Rattle.machine.specs.States.{badBy};
+ghost use Rattle.model.specs.Limits.{lastSlot};
 ghost use Rattle.model.specs.declared.answers.Refusal.the-variants.{AtLastSlot, BadState};
 ghost use Rattle.model.specs.Refusals.{faultAt, noFault};
 use model::ChannelMap;
@@ -55,7 +53,7 @@ pub fn refused(fault: Fault, st: State) -> Stepped
 
 // 12: a slot above the last, or a count above its flow's C, which is 0 beyond the last flow.
 fn is_bad(t: u32, sent: &[u8; Flow::MOST], work: &[u8; Flow::MOST]) -> bool
-    ensures { λ r. ⌜ r ≡ (ltb lastSlot t || anyTo (λ k. ltb (getD (now (work .entry)) k 0) (getD (now (sent .entry)) k 0)) mostFlows) ⌝ }
+    ensures { λ r. ⌜ r ≡ badBy t (now (sent .entry)) (now (work .entry)) ⌝ }
 {
     if State::LAST < t {
         return true;
@@ -72,7 +70,8 @@ fn is_bad(t: u32, sent: &[u8; Flow::MOST], work: &[u8; Flow::MOST]) -> bool
 
 // What is wrong with a state, by its slot and its counts: 12, then 11.
 pub fn state_fault(t: u32, sent: &[u8; Flow::MOST], work: &[u8; Flow::MOST]) -> Fault
-    ensures { λ r. ⌜ r ≡ cond (ltb lastSlot t || anyTo (λ k. ltb (getD (now (work .entry)) k 0) (getD (now (sent .entry)) k 0)) mostFlows) (faultAt BadState 0) (cond (leb lastSlot t) (faultAt AtLastSlot 0) noFault) ⌝ }
+    ensures { λ r. ⌜ r ≡ cond (badBy t (now (sent .entry)) (now (work .entry))) (faultAt BadState 0)
+        (cond (leb lastSlot t) (faultAt AtLastSlot 0) noFault) ⌝ }
 {
     if is_bad(t, sent, work) {
         return Fault::of(Refusal::BadState);

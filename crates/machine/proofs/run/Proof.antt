@@ -1,6 +1,7 @@
 -- `run` of a refused set stays where it began; of any other it is the accepted set's. Assumes nothing.
 use Rattle.machine.specs.States.{refuses-not-good, not-refuses-good, run-refused, run-none}
 use Rattle.model.specs.Sets.{used}
+use Rattle.document.specs.Machine.{ahead}
 use Rattle.document.specs.Reader.{recordFault}
 use Rattle.model.specs.Refusals.{good}
 use Rattle.model.specs.declared.answers.Ran.{Ran}
@@ -24,7 +25,8 @@ returns c =
     let e = c .before .before .before .record-fault .ensures in
     let n = refuses-not-good _ (sym (c .before .before .refuses .ensures) ∙ c .before .if1 .taken) in
     let b : good (recordFault u .refusal) ≡ false = ap (λ (f : Fault). good (f .refusal)) (sym e) ∙ n in
-    (ap₂ (λ (f : Fault) (z : State). ranOf f z) e (c .fresh .ensures) ∙ sym (run-none u) ∙ sym (run-refused u b (c .before .before .before .before .args .budget)), λ a. refl)
+    let r = run-refused ahead u b (c .before .before .before .before .args .budget) in
+    (ap₂ (λ (f : Fault) (z : State). ranOf f z) e (c .fresh .ensures) ∙ sym (run-none ahead u) ∙ sym r, λ a. refl)
 
 run-accepted-requires : tie.Need-run-accepted-requires
 run-accepted-requires c κs =

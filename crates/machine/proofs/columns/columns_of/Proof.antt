@@ -36,30 +36,49 @@ abbrev μ-loop : tie.MeasureT-loop
 
 loop-holds : tie.Need-loop-holds Inv-loop μ-loop
 loop-holds c =
-    let p = c .pre .1 in
-    (search needs, accepted-count (c .args .t1) (c .pre .0), through-none _ _, through-none _ _, through-none _ _, through-none _ _, λ j h. absurd (omega arith), λ j h. absurd (omega arith), λ j h. absurd (omega arith), p .4, p .5, routes-none _ _ _)
+    let p = c .pre .1 in (
+      search needs,
+      accepted-count (c .args .t1) (c .pre .0),
+      through-none _ _,
+      through-none _ _,
+      through-none _ _,
+      through-none _ _,
+      λ j h. absurd (omega arith),
+      λ j h. absurd (omega arith),
+      λ j h. absurd (omega arith),
+      p .4,
+      p .5,
+      routes-none _ _ _,
+    )
+
+-- the loop at flow k
+abbrev looked : tie.After-work Inv-loop μ-loop → tie.In-loop Inv-loop μ-loop
+looked c = c .before .before .before .before .before
 
 cast-work : tie.Need-cast-work Inv-loop μ-loop
 cast-work c =
-    let s = c .before .before .before .before .before .before .before .args .t1 in
-    let k = c .before .before .before .before .before .before .loop .k in
-    let w : work (flowAt s k) ≤ 64 = work-small _ (accepted-flow s (c .before .before .before .before .before .before .before .pre .0) k (c .before .before .before .before .before .loop-test .taken)) in
+    let i = looked c in
+    let s = i .before .before .args .t1 in
+    let k = i .before .loop .k in
+    let w : work (flowAt s k) ≤ 64 = work-small _ (accepted-flow s (i .before .before .pre .0) k (i .loop-test .taken)) in
     omega (arith, c .work .ensures)
 
 put-route-requires : tie.Need-put-route-requires Inv-loop μ-loop
 put-route-requires c κs =
-    let v = c .before .before .before .before .before .before .before .before .loop in
-    (omega (arith, c .before .before .before .before .before .before .before .loop-test .taken, v .inv .1), v .inv .9, v .inv .10)
+    let i = looked (c .before .before) in
+    let v = i .before .loop in
+    (omega (arith, i .loop-test .taken, v .inv .1), v .inv .9, v .inv .10)
 
 loop-again : tie.Need-loop-again Inv-loop μ-loop
 loop-again c =
-    let v = c .before .before .before .before .before .before .before .before .before .loop in
-    let s = c .before .before .before .before .before .before .before .before .before .before .args .t1 in
+    let i = looked (c .before .before .before) in
+    let v = i .before .loop in
+    let s = i .before .before .args .t1 in
     let a = c .before .before .before .before .before .before .first-release .ensures in
     let q = c .before .before .before .before .before .slots .ensures in
     let d = c .before .before .before .before .slots2 .ensures in
-    let h = c .before .before .before .before .before .before .before .before .loop-test .taken in
-    let p = c .before .before .before .before .before .before .before .before .before .before .pre .1 in
+    let h = i .loop-test .taken in
+    let p = i .before .before .pre .1 in
     let u = sym (used-flow s (v .k) h) in
     let l : v .k < mostFlows = omega (arith, h, v .inv .1) in
     let e = c .put-route .ensures in (

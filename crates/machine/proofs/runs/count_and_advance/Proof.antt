@@ -1,5 +1,6 @@
 -- `count_and_advance` takes the flows in turn: each adds what it is to the counts. Assumes nothing.
-use Rattle.machine.specs.SlotAnswers.{deliveredBy, droppedBy}
+use Rattle.machine.specs.LentArrays.{Packets, packetsOf}
+use Rattle.machine.specs.SlotAnswers.{countBy, deliveredBy, deliveredTo, droppedBy, droppedTo}
 use Rattle.machine.specs.ArrayLists.{Through, through-none, through-next, length-filterTo, filter-le}
 use Rattle.laws.specs.SumLaws.{sum-next}
 use Rattle.model.specs.Sets.{filterTo}
@@ -18,9 +19,8 @@ use Rattle.machine.proofs.runs.count_and_advance.Tie as tie
 
 abbrev Inv-loop : tie.InvT-loop
 Inv-loop count t start due work marked sent₀ delivered₀ dropped₀ k₀ sent delivered dropped k =
-    (k ≤ count) × Through (λ j. getD sent₀ j 0 + getD marked j 0) k sent₀ sent
-    × (delivered ≡ length (filterTo (deliveredBy sent₀ work marked) k))
-    × (dropped ≡ length (filterTo (droppedBy t start due sent₀ work marked) k))
+    (k ≤ count) × Through (countBy sent₀ marked) k sent₀ sent
+    × (delivered ≡ length (deliveredTo sent₀ work marked k)) × (dropped ≡ length (droppedTo t (packetsOf start due sent₀ work) marked k))
 
 abbrev μ-loop : tie.MeasureT-loop
 μ-loop count t start due work marked sent₀ delivered₀ dropped₀ k₀ sent delivered dropped k = count - k
@@ -33,8 +33,23 @@ loop-holds c = (search needs, through-none _ _, refl, refl)
 more : (p : ℕ → Bool) (k : ℕ) → length (filterTo p (k + 1)) ≡ length (filterTo p k) + bit (p k)
 more p k = length-filterTo p (k + 1) ∙ sum-next (λ j. bit (p j)) k ∙ ap (λ (x : ℕ). x + bit (p k)) (sym (length-filterTo p k))
 
+-- flow k's packet is delivered, and dropped
+abbrev got : tie.Start Inv-loop μ-loop → ℕ → Bool
+got s = deliveredBy (s .args .sent .now) (s .args .work .now) (s .args .marked .now)
+
+abbrev lost : tie.Start Inv-loop μ-loop → ℕ → Bool
+lost s = let a = s .args in droppedBy (a .t) (packetsOf (a .start .now) (a .due .now) (a .sent .now) (a .work .now)) (a .marked .now)
+
+-- the loop at flow k
+abbrev tested : tie.After-bit Inv-loop μ-loop → tie.After-is-delivered Inv-loop μ-loop
+tested c = c .before .before .before .before .before
+
+abbrev looked : tie.After-bit Inv-loop μ-loop → tie.In-loop Inv-loop μ-loop
+looked c = tested c .before .before .before .before
+
 -- a count and its mark are small
-small : (c : tie.In-loop Inv-loop μ-loop) → (getD (c .before .loop .sent) (c .before .loop .k) 0 ≤ 64) × (getD (c .before .before .args .marked .now) (c .before .loop .k) 0 ≤ 1)
+small : (c : tie.In-loop Inv-loop μ-loop)
+    → (getD (c .before .loop .sent) (c .before .loop .k) 0 ≤ 64) × (getD (c .before .before .args .marked .now) (c .before .loop .k) 0 ≤ 1)
 small c =
     let v = c .before .loop in
     let p = c .before .before .pre .1 (v .k) in
@@ -45,33 +60,38 @@ add-after c = omega (arith, small (c .before .before))
 
 add-delivered : tie.Need-add-delivered Inv-loop μ-loop
 add-delivered c =
-    let v = c .before .before .before .before .before .before .before .before .before .before .loop in
-    let a = c .before .before .before .before .before .before .before .before .before .before .before .args in
-    omega (arith, c .bit .ensures .1, v .inv .2, filter-le (deliveredBy (a .sent .now) (a .work .now) (a .marked .now)) (v .k), c .before .before .before .before .before .before .before .before .before .loop-test .taken, c .before .before .before .before .before .before .before .before .before .before .before .pre .0 .0)
+    let i = looked c in
+    let v = i .before .loop in
+    let s = i .before .before in
+    omega (arith, c .bit .ensures .1, v .inv .2, filter-le (got s) (v .k), i .loop-test .taken, s .pre .0 .0)
 
 add-dropped : tie.Need-add-dropped Inv-loop μ-loop
 add-dropped c =
-    let v = c .before .before .before .before .before .before .before .before .before .before .before .loop in
-    let a = c .before .before .before .before .before .before .before .before .before .before .before .before .args in
-    omega (arith, c .bit2 .ensures .1, v .inv .3, filter-le (droppedBy (a .t) (a .start .now) (a .due .now) (a .sent .now) (a .work .now) (a .marked .now)) (v .k), c .before .before .before .before .before .before .before .before .before .before .loop-test .taken, c .before .before .before .before .before .before .before .before .before .before .before .before .pre .0 .0)
+    let i = looked (c .before) in
+    let v = i .before .loop in
+    let s = i .before .before in
+    omega (arith, c .bit2 .ensures .1, v .inv .3, filter-le (lost s) (v .k), i .loop-test .taken, s .pre .0 .0)
 
 loop-again : tie.Need-loop-again Inv-loop μ-loop
 loop-again c =
-    let v = c .before .before .before .before .before .before .before .before .before .before .before .loop in
-    let a = c .before .before .before .before .before .before .before .before .before .before .before .before .args in
+    let i = looked (c .before) in
+    let v = i .before .loop in
+    let s = i .before .before in
+    let a = s .args in
     let k = v .k in
-    let l = c .before .before .before .before .before .before .before .before .before .before .loop-test .taken in
+    let l = i .loop-test .taken in
     let m : ℕ = getD (a .marked .now) k 0 in
     let u : getD (v .sent) k 0 ≡ getD (a .sent .now) k 0 = v .inv .1 .above k (le-refl k) in (
       omega (arith, l),
-      through-next _ k _ _ _ (omega (arith, l, c .before .before .before .before .before .before .before .before .before .before .before .before .pre .0)) (ap (λ (x : ℕ). x + m) u) (v .inv .1),
+      through-next _ k _ _ _ (omega (arith, l, s .pre .0)) (ap (λ (x : ℕ). x + m) u) (v .inv .1),
       ap₂ (λ (x y : ℕ). x + y) (v .inv .2)
-          (c .before .bit .ensures .0 ∙ ap bit (c .before .before .before .before .before .before .is-delivered .ensures ∙ ap (λ (n : ℕ). eqb m 1 && eqb (n + 1) (getD (a .work .now) k 0)) u))
-          ∙ sym (more (deliveredBy (a .sent .now) (a .work .now) (a .marked .now)) k),
+          (c .before .bit .ensures .0 ∙ ap bit (tested (c .before) .is-delivered .ensures
+          ∙ ap (λ (n : ℕ). eqb m 1 && eqb (n + 1) (getD (a .work .now) k 0)) u))
+          ∙ sym (more (got s) k),
       ap₂ (λ (x y : ℕ). x + y) (v .inv .3)
           (c .bit2 .ensures .0 ∙ ap bit (c .before .before .is-dropped .ensures
           ∙ ap (λ (n : ℕ). leb (getD (a .start .now) k 0) (a .t) && eqb (a .t + 1) (getD (a .due .now) k 0) && ltb (n + m) (getD (a .work .now) k 0)) u))
-          ∙ sym (more (droppedBy (a .t) (a .start .now) (a .due .now) (a .sent .now) (a .work .now) (a .marked .now)) k),
+          ∙ sym (more (lost s) k),
     )
 
 returns : tie.Need-returns Inv-loop μ-loop

@@ -27,7 +27,8 @@ loop-holds c = (search needs, c .if1 .left, any-zero _)
 returns-2 : tie.Need-returns-2 Inv-loop μ-loop
 returns-2 c =
     let a = c .before .before .before .before .before .before .args in
-    let h = any-in (λ j. ltb (getD (a .work .now) j 0) (getD (a .sent .now) j 0)) mostFlows (c .before .before .before .before .loop .k) (search needs) (lt-ltb _ _ (c .if2 .taken)) in
+    let k = c .before .before .before .before .loop .k in
+    let h = any-in (λ j. ltb (getD (a .work .now) j 0) (getD (a .sent .now) j 0)) mostFlows k (search needs) (lt-ltb _ _ (c .if2 .taken)) in
     sym (ap (λ (b : Bool). ltb lastSlot (a .t) || b) h ∙ or-true (ltb lastSlot (a .t)))
 
 loop-again : tie.Need-loop-again Inv-loop μ-loop
