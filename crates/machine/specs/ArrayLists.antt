@@ -1,6 +1,6 @@
 -- Arrays that a loop goes through or fills, and the lists of the definitions: what one entry more does.
 use mathlib.Core.Path.{_≡_, refl, sym, ap, ap₂, _∙_}
-use mathlib.Core.Bool.{Bool, true, false, _||_, cond, or-false, or-assoc}
+use mathlib.Core.Bool.{Bool, true, false, _||_, cond, or-false}
 use mathlib.Core.List.{List, [], _∷_, _++_, append-nil}
 use Prim.Native.Nat.{ℕ, zero, suc, _+_, _-_, _≤_, _<_, zero-le}
 use native.Mathlib.Nat.{le-refl}
@@ -53,6 +53,10 @@ through-stay f n old new e t =
 -- the same at an equal number of entries
 pub through-all : (f : ℕ → ℕ) (n m : ℕ) (old new : List ℕ) → n ≡ m → Through f n old new → Through f m old new
 through-all f n m old new e t = rw (← e) t
+
+-- a loop that has come to the last of the entries is through
+pub through-done : (f : ℕ → ℕ) (n m : ℕ) (old new : List ℕ) → n ≤ m → m ≤ n → Through f n old new → Through f m old new
+through-done f n m old new h l t = through-all f n m old new (omega arith) t
 
 -- an array that holds a list's entries and then blank ones
 take-replicate {ℓ} : {A : Type ℓ} (j n : ℕ) (d : A) → j ≤ n → take j (replicate n d) ≡ replicate j d
@@ -126,6 +130,10 @@ pub filter-next : (p : ℕ → Bool) (n : ℕ) → filterTo p (n + 1) ≡ filter
 unfolding filterTo
 filter-next p n = rw add-one
 
+pub bit-one : (p : Bool) → bit p ≤ 1
+bit-one true = omega arith
+bit-one false = omega arith
+
 -- no more numbers below n are in a list than it is long
 once : (x n : ℕ) → sumTo (λ k. bit (eqb k x)) n ≤ bit (ltb x n)
 unfolding sumTo
@@ -151,10 +159,6 @@ members-le (x ∷ l) n =
     either : (p q : Bool) → bit (p || q) ≤ bit p + bit q
     either true q = omega arith
     either false q = omega arith
-
-    bit-one : (p : Bool) → bit p ≤ 1
-    bit-one true = omega arith
-    bit-one false = omega arith
 
 -- x put in place i of the first n, which then move up by one: a move changes nothing of the whole
 pub move-up : (l : List ℕ) (i n x : ℕ) → i < n → n ≤ length l

@@ -3,7 +3,7 @@ use mathlib.Core.Path.{_≡_, refl, sym, ap, ap₂, _∙_}
 use mathlib.Core.Bool.{cond}
 use mathlib.Core.List.{[], _∷_, _++_, append-nil}
 use Prim.Native.Nat.{ℕ, zero, suc, _+_, _-_, _*_, _/_, _%_, _^_, _≤_, _<_}
-use native.Mathlib.Nat.{add-zero, mod-lt, mod-eq-of-lt, add-comm}
+use native.Mathlib.Nat.{add-zero, mod-lt, add-comm}
 use native.Mathlib.Numerals.{add-one, one-add}
 use native.Mathlib.Omega.{arith}
 use borrow.Author.Tests.{eq-eqb, ne-eqb}
@@ -13,8 +13,8 @@ use lib.Arith.{lt-one}
 use lib.Pow.{mod-pow-add, pow-pos, shr-shr}
 use lib.ListN.{length, getD, length-append, List·getD-append}
 use lib.Seq.{getD-append-seam}
-use Rattle.model.specs.Limits.{firstChannel, mostChannels}
-use Rattle.document.specs.Machine.{channelsTo, channels}
+use Rattle.model.specs.Limits.{firstChannel}
+use Rattle.document.specs.Machine.{channelsTo}
 
 -- bit i of a map
 abbrev pub bitAt : ℕ → ℕ → ℕ

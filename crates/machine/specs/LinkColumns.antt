@@ -1,4 +1,4 @@
--- The links of a set's flows from arrays, and a filter that tells at once of most links that they share no node with a placed one.
+-- The links of a set's flows from arrays, and the classes of nodes by which most links need not be compared with the placed ones.
 use mathlib.Core.Path.{_≡_, refl, sym, ap, _∙_}
 use mathlib.Core.Bool.{Bool, true, false}
 use mathlib.Core.List.{List, [], _∷_}
@@ -10,7 +10,6 @@ use borrow.Author.Tests.{ne-eqb, eqb-true, eqb-false}
 use lib.Dec.{eqb}
 use lib.ListN.{length, getD, set, length-set}
 use lib.Seq.{getD-set-same, getD-set-other}
-use Rattle.model.specs.declared.kinds.Flow.{Flow}
 use Rattle.model.specs.declared.kinds.FlowSet.{FlowSet}
 use Rattle.model.specs.Refusals.{good}
 use Rattle.document.specs.Reader.{recordFault}
@@ -89,12 +88,9 @@ module _ (s : FlowSet) (links : Links) (h : good (recordFault (used s) .refusal)
   -- only the flows of the set have transmissions to make
   pub counted : k < s .count
   counted = elim (decLe (s .count) k) [
-    | yes d ↦ (let z : workAt (used s) k ≡ 0 = ap workOf (used-none s k d) in absurd (omega (arith, w, z)))
+    | yes d ↦ (let z : workAt (used s) k ≡ 0 = ap work (used-none s k d) in absurd (omega (arith, w, z)))
     | no d ↦ omega arith
   ]
-    where
-      workOf : Flow → ℕ
-      workOf f = work f
 
   short : getD sent k 0 < work (flowAt s k)
   short = rw (used-flow s k counted) at w

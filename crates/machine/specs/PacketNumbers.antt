@@ -4,7 +4,7 @@ use mathlib.Core.Path.{_≡_, refl, sym, ap, _∙_, fun-ext}
 use mathlib.Core.Bool.{Bool, true, false, _&&_, _||_, cond, false≢true}
 use mathlib.Core.List.{List, map}
 use Prim.Native.Nat.{ℕ, _+_, _-_, _*_, _/_, _≤_, _<_, min}
-use native.Mathlib.Nat.{div-add-mod', add-zero, mul-le-mul, min-eq-left}
+use native.Mathlib.Nat.{div-add-mod', add-zero, min-eq-left}
 use native.Mathlib.Decide.{decLe}
 use native.Mathlib.Omega.{arith}
 use borrow.Author.Tests.{eqb-true, eqb-false, eq-eqb, ne-eqb, le-leb, leb-true, ltb-true}
@@ -13,7 +13,7 @@ use lib.ListN.{getD, take, length-take, length-map, List·getD-eq-default}
 use Rattle.model.specs.declared.kinds.Flow.{Flow}
 use Rattle.model.specs.declared.kinds.FlowSet.{FlowSet}
 use Rattle.model.specs.declared.kinds.State.{State}
-use Rattle.model.specs.Limits.{lastSlot, mostFlows, mostLinks}
+use Rattle.model.specs.Limits.{lastSlot, mostFlows}
 use Rattle.model.specs.Releases.{release-first}
 use Rattle.model.specs.Refusals.{good}
 use Rattle.document.specs.Reader.{recordFault}

@@ -1,8 +1,8 @@
--- A flow judged for its slot: it is placed if its packet is ready and its link shares no node with a placed one.
+-- One flow in rule 4's choice: it is placed if its packet is ready and its link shares no node with a placed one.
 use mathlib.Core.Path.{_≡_, refl, sym, ap, _∙_}
 use mathlib.Core.Bool.{Bool, true, false, not, _&&_}
-use mathlib.Core.List.{List, []}
-use Prim.Native.Nat.{ℕ, _+_, _/_, _≤_, _<_}
+use mathlib.Core.List.{List}
+use Prim.Native.Nat.{ℕ, _+_, _≤_, _<_}
 use lib.ListN.{drop, getD, length}
 use Rattle.machine.specs.LentArrays.{Links, Placing}
 use Rattle.machine.specs.PlacedChoice.{clashEnds, placeIf, place-none, place-rest, ChoiceSoFar, choice-more, choice-skip}

@@ -15,9 +15,9 @@ use Rattle.model.specs.declared.kinds.State.{State}
 use Rattle.model.specs.declared.answers.Fault.{Fault}
 use Rattle.model.specs.declared.answers.Stepped.{Stepped}
 use Rattle.model.specs.Limits.{lastSlot, mostFlows}
-use Rattle.model.specs.Sets.{used, filterTo}
+use Rattle.model.specs.Sets.{used}
 use Rattle.document.specs.Delay.{ways}
-use Rattle.document.specs.Machine.{ahead, ordered, place, placedAt}
+use Rattle.document.specs.Machine.{ahead, ordered, placedAt}
 use Rattle.laws.specs.Accepted.{accepted, ones-pos}
 use Rattle.laws.specs.SumLaws.{and-l, and-r}
 use Rattle.laws.specs.Used.{used-count}

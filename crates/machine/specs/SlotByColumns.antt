@@ -3,40 +3,41 @@ use mathlib.Core.Path.{_≡_, refl, sym, ap, ap₂, _∙_}
 use mathlib.Core.Bool.{Bool, true, false, _&&_, _||_, cond}
 use mathlib.Core.List.{List, []}
 use Prim.Native.Nat.{ℕ, _+_, _-_, _/_, _%_, _≤_, _<_, zero-le}
-use native.Mathlib.Nat.{le-refl, add-zero, mul-zero}
+use native.Mathlib.Nat.{add-zero, mul-zero}
 use native.Mathlib.Decide.{decLe}
 use native.Mathlib.Omega.{arith}
 use borrow.Author.Tests.{ltb-true, lt-ltb, le-ltb, eqb-true}
 use lib.Dec.{leb, ltb, eqb}
-use lib.ListN.{length, getD, take, drop, replicate}
+use lib.ListN.{length, getD, take, replicate}
 use lib.Seq.{length-take-le, getD-take}
 use Rattle.model.specs.declared.kinds.ChannelMap.{ChannelMap}
 use Rattle.model.specs.declared.kinds.Flow.{Flow}
 use Rattle.model.specs.declared.kinds.FlowSet.{FlowSet}
 use Rattle.model.specs.declared.kinds.State.{State}
-use Rattle.model.specs.Limits.{lastSlot, mostChannels, mostFlows, mostLinks}
+use Rattle.model.specs.Limits.{lastSlot, mostChannels, mostFlows}
 use Rattle.model.specs.declared.answers.Send.{Send}
 use Rattle.model.specs.declared.answers.Delivery.{Delivery}
 use Rattle.model.specs.declared.answers.Fault.{Fault}
 use Rattle.model.specs.declared.answers.Stepped.{Stepped}
 use Rattle.model.specs.Refusals.{good, noFault}
 use Rattle.document.specs.Reader.{recordFault}
-use Rattle.model.specs.Sums.{bit, anyTo}
+use Rattle.model.specs.Sums.{bit}
 use Rattle.model.specs.Sets.{freshState, flowAt, used, anyOf, memb, meet, filterTo, work}
 use Rattle.document.specs.Delay.{ways, workAt}
 use Rattle.document.specs.Machine.{releaseAt, deadlineAt, ready, countAt, hadAt, readyAt, dueAt, linkOf, tryOf, linkAt, radioChannel, sendOf, ordered, place, placedAt, deliveriesOf, filled, noSend, noDelivery, stepIf, badState, runOf, nextWith, Priority, ahead, deliveredWith, droppedWith, placedWith, sendsWith, stepIfWith}
-use Rattle.laws.specs.Accepted.{accepted, work-small}
+use Rattle.laws.specs.Accepted.{accepted}
+use Rattle.laws.specs.TestAnswers.{work-le-most}
 use Rattle.laws.specs.Used.{used-map, used-count, used-flow}
 use Rattle.laws.specs.SumLaws.{and-l, and-r}
-use Rattle.machine.specs.ArrayLists.{Through, through-all, getD-zeros, any-ext, filter-none}
+use Rattle.machine.specs.ArrayLists.{Through, through-all, bit-one, getD-zeros, any-ext, filter-none}
 use Rattle.model.specs.Releases.{release-back}
 use Rattle.machine.specs.LentArrays.{Numbers, Links, Packets, packetsOf}
-use Rattle.machine.specs.PacketNumbers.{dueIn, hadIn, dueBy, hadBy, aheadBy, readyBy, PacketsHold, had-is, ready-work, ready-if, used-none, accepted-count}
+use Rattle.machine.specs.PacketNumbers.{dueIn, dueBy, hadBy, aheadBy, readyBy, PacketsHold, had-is, ready-work, ready-if, used-none, accepted-count}
 use Rattle.machine.specs.ReadyOrder.{Each, each-at, each-wide, waiting-each, ordered-each, ordered-in, keep, keep-all, ReadyInOrder, FlowsTo}
 use Rattle.machine.specs.PlacedChoice.{Choice, choiceBy, linkBy, clashOf, orderedBy, placed-by, place-ext, placed-each, placed-ready, delivered-le}
 use Rattle.machine.specs.LinkColumns.{Routes, linkIn, LinksThere, PlacedLinks, link-is, link-in-route}
-use Rattle.machine.specs.States.{badBy, mostCount, GoodState, count-after-le, fresh-good, good-not-bad, next-good, next-slot, step-good, run-none, run-next}
-use Rattle.machine.specs.SlotAnswers.{sendIn, sendBy, sendsOf, sends-by, length-from, deliveredBy, deliveredTo, deliveriesBy, deliveryArray, length-deliveries, droppedBy, droppedTo, countBy, deliveries-by, delivered-by, dropped-by, after-by, next-by, Delayed, MarkedDelayed}
+use Rattle.machine.specs.States.{badBy, mostCount, GoodState, had-le, count-after-le, fresh-good, good-not-bad, next-good, next-slot, step-good, run-none, run-next}
+use Rattle.machine.specs.SlotAnswers.{sendBy, sendsOf, sends-by, length-from, deliveredBy, deliveredTo, deliveriesBy, deliveryArray, length-deliveries, droppedBy, droppedTo, countBy, deliveries-by, delivered-by, dropped-by, after-by, next-by, MarkedDelayed}
 
 -- a set's numbers in arrays: no start, period or deadline of the first n flows exceeds 16 bits
 abbrev pub SmallTo : ℕ → List ℕ → List ℕ → List ℕ → Type 0
@@ -52,10 +53,6 @@ pub record AfterNumbers (s : FlowSet) (numbers : Numbers) : Type 0 where
   pub small-start : (k : ℕ) → getD (numbers .start) k 0 ≤ 65535
   pub small-period : (k : ℕ) → getD (numbers .period) k 0 ≤ 65535
   pub small-deadline : (k : ℕ) → getD (numbers .deadline) k 0 ≤ 65535
-
-had-le : (b : Bool) (n : ℕ) → cond b 0 n ≤ n
-had-le true n = zero-le
-had-le false n = le-refl n
 
 zero-both : (b : Bool) → _≡_ {A = ℕ} (cond b 0 0) 0
 zero-both true = refl
@@ -121,7 +118,7 @@ pub record AfterOrder (s : FlowSet) (st : State) (p : Packets) (deadline order :
 module _ (s : FlowSet) (st : State) (p : Packets) (deadline order : List ℕ) (waiting : ℕ) (r : AfterOrder s st p deadline order waiting) where
   -- a count is at most C, which is at most 64
   work-at-small : (k : ℕ) → k < s .count → workAt (used s) k ≤ 64
-  work-at-small k h = work-small (flowAt (used s) k) (accepted (used s) (r .good-set) .flow k (rw (used-count s) h))
+  work-at-small k h = work-le-most (used s) (accepted (used s) (r .good-set)) k (rw (used-count s) h)
 
   -- beyond the last flow a count is 0
   pub none-sent : (k : ℕ) → s .count ≤ k → getD (p .sent) k 0 ≡ 0
@@ -213,15 +210,11 @@ module _ (s : FlowSet) (st : State) (p : Packets) (deadline order : List ℕ) (w
 
     pub sent-small : (k : ℕ) → countBy (p .sent) marked k ≤ 64
     sent-small k = elim (decLe (s .count) k) [
-      | yes d ↦ omega (arith, none-sent k d, c .marks k, out (memb k (placedWith first (used s) st)) refl d)
+      | yes d ↦ omega (arith, none-sent k d, c .marks k, bit-one (memb k (placedWith first (used s) st)))
       | no d ↦
           let a = after-by (used s) st p deadline (r .packets) first chosen marked n c k in
           omega (arith, a, count-after-le first (used s) st (r .good-state) k (rw (used-count s) (omega arith)), work-at-small k (omega arith))
     ]
-      where
-        out : (b : Bool) → memb k (placedWith first (used s) st) ≡ b → s .count ≤ k → bit b ≤ 1
-        out true e d = le-refl 1
-        out false e d = zero-le
 
     -- a marked packet was released and its deadline is to come
     pub marked-delayed : MarkedDelayed (st .slot .0) deadline (p .due) marked
@@ -294,9 +287,6 @@ through-blank f n m new h z k = elim (decLe n k) [
   | no d ↦ h .below k (omega arith)
 ]
 
-abbrev workOf : Flow → ℕ
-workOf f = work f
-
 -- the arrays that `columns_of` fills are the set's numbers
 pub after-numbers : (s : FlowSet) (numbers : Numbers) → good (recordFault (used s) .refusal) ≡ true
     → Through (λ k. flowAt (used s) k .start) (s .count) (replicate mostFlows 0) (numbers .start)
@@ -310,7 +300,7 @@ after-numbers s numbers g a b c d m =
       starts = through-blank _ (s .count) mostFlows (numbers .start) a (λ k h. ap (λ (f : Flow). f .start) (used-none s k h));
       periods = through-blank _ (s .count) mostFlows (numbers .period) b (λ k h. ap (λ (f : Flow). f .period .0) (used-none s k h));
       deadlines = through-blank _ (s .count) mostFlows (numbers .deadline) c (λ k h. ap (λ (f : Flow). f .deadline .0) (used-none s k h));
-      works = through-blank _ (s .count) mostFlows (numbers .work) d (λ k h. ap workOf (used-none s k h));
+      works = through-blank _ (s .count) mostFlows (numbers .work) d (λ k h. ap work (used-none s k h));
       small-start = small _ (numbers .start) a (λ k h. m k h .0);
       small-period = small _ (numbers .period) b (λ k h. m k h .1);
       small-deadline = small _ (numbers .deadline) c (λ k h. m k h .2);
@@ -330,7 +320,7 @@ bad-by s st numbers n =
   where
     most : (k : ℕ) → getD (numbers .work) k 0 ≡ mostCount (used s) k
     most k = elim (decLe (s .count) k) [
-      | yes d ↦ n .works k ∙ ap workOf (used-none s k d) ∙ rw (le-ltb k (used s .count) (rw (used-count s) d))
+      | yes d ↦ n .works k ∙ ap work (used-none s k d) ∙ rw (le-ltb k (used s .count) (rw (used-count s) d))
       | no d ↦ n .works k ∙ rw (lt-ltb k (used s .count) (rw (used-count s) (omega arith)))
     ]
 

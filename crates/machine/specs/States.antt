@@ -84,6 +84,11 @@ fresh-good s =
       counts = λ k. rw (getD-zeros mostFlows k) zero-le;
     }
 
+-- what a packet has had is no more than the count
+pub had-le : (b : Bool) (n : ℕ) → cond b 0 n ≤ n
+had-le true n = zero-le
+had-le false n = le-refl n
+
 -- the laws of this part hold for any order of priority
 module _ (first : Priority) where
   -- the next count is at most C: a packet that is placed was short of it
@@ -93,13 +98,11 @@ module _ (first : Priority) where
       rw (next-is (flowAt s k) (st .slot .0) (countAt st k) (memb k (placedWith first s st)) (λ e. placed-ready first s st k e .1))
       (go (memb k (placedWith first s st)) refl)
     where
-      had-le : (b : Bool) → cond b 0 (countAt st k) ≤ countAt st k
-      had-le true = zero-le
-      had-le false = le-refl _
-
       go : (b : Bool) → memb k (placedWith first s st) ≡ b → hadAt s st k + bit b ≤ workAt s k
       go true e = let w = ready-if (flowAt s k) (st .slot .0) (countAt st k) (placed-ready first s st k e .1) in omega arith
-      go false e = omega (arith, had-le (eqb (st .slot .0) (releaseAt (flowAt s k) (st .slot .0))), rw (lt-ltb k (s .count) h) at (g .counts k))
+      go false e =
+          let l = had-le (eqb (st .slot .0) (releaseAt (flowAt s k) (st .slot .0))) (countAt st k) in
+          omega (arith, l, rw (lt-ltb k (s .count) h) at (g .counts k))
 
   pub next-good : (s : FlowSet) (st : State) → GoodState s st → st .slot .0 < lastSlot → GoodState s (nextWith first s st)
   unfolding nextWith

@@ -4,8 +4,8 @@ ghost use mathlib.Core.Path.{_≡_};
 ghost use mathlib.Core.List.{[], _∷_};
 ghost use Prim.Native.Nat.{_%_, _+_, _-_, _/_, _<_, _≤_, ℕ};
 ghost use Rattle.model.specs.Sets.{meet};
-ghost use lib.ListN.{drop, getD, length, set, take};
-ghost use Rattle.model.specs.Limits.{mostChannels, mostFlows, mostLinks};
+ghost use lib.ListN.{drop, getD, set};
+ghost use Rattle.model.specs.Limits.{mostChannels, mostFlows};
 ghost use Rattle.machine.specs.LentArrays.{PerFlow, PerPlaced, linksAt, linksOf, packetsAt, placingAfter, placingAt};
 ghost use Rattle.machine.specs.PlacedChoice.{Choice, choiceBy, clashEnds, placeIf};
 ghost use Rattle.machine.specs.LinkColumns.{Busy, LinkThere, LinksThere, endAt, fromAt, linkIn};
@@ -40,7 +40,7 @@ fn share_node(a: Ends, b: Ends) -> bool
     a.to == b.to
 }
 
-// Marks the classes of a link's ends; a node's class is its number mod 256.
+// Marks the classes of a placed link's ends; a node's class is its number mod 256.
 fn mark_ends(a: Ends, busy: &mut [u8; 256])
     ensures { λ r. ⌜ now (busy .exit) ≡ set (set (now (busy .entry)) (a .from % 256) 1) (a .to % 256) 1 ⌝ }
 {

@@ -1,6 +1,6 @@
 // The numbers of a set's flows, each kind in an array of its own, and each flow's absolute deadline and count in a slot.
 ghost use mathlib.Core.Path.{_≡_};
-ghost use Prim.Native.Nat.{_+_, _-_, _<_, _≤_, ℕ};
+ghost use Prim.Native.Nat.{_+_, _<_, _≤_, ℕ};
 ghost use lib.ListN.{getD, length, set};
 ghost use Rattle.model.specs.Limits.{lastSlot, mostFlows, mostNodes};
 ghost use mathlib.Core.Bool.{true};

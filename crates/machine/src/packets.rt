@@ -15,7 +15,7 @@ pub fn absolute_deadline(first: Slot, period: Span, deadline: Span, t: Slot) -> 
     release.after(deadline)
 }
 
-// What a packet has had: nothing in its release slot, whatever the count says.
+// The transmissions that a packet has had: none in its release slot, whatever the count says.
 pub fn had_of(due: Slot, deadline: Span, t: Slot, n: u8) -> u8
     ensures { λ r. ⌜ r ≡ cond (eqb (min (t .0 + deadline .0) 4294967295) (due .0)) 0 n ⌝ }
 {
@@ -32,7 +32,7 @@ pub fn delay_of(t: Slot, due: Slot, deadline: Span) -> Span
     next.since(release)
 }
 
-// Rule 2: released, before its absolute deadline, and short of C.
+// Rule 2, ready: released, before its absolute deadline, and short of C.
 pub fn is_ready(start: Slot, due: Slot, sent: u8, work: u8, t: Slot) -> bool
     ensures { λ r. ⌜ r ≡ readyIn (start .0) (due .0) sent work (t .0) ⌝ }
 {
@@ -46,7 +46,7 @@ pub fn is_ready(start: Slot, due: Slot, sent: u8, work: u8, t: Slot) -> bool
     sent < work
 }
 
-// Placed, and this was transmission C − 1.
+// Rule 6, delivered: placed, and this was transmission C − 1.
 pub fn is_delivered(marked: u8, sent: u8, work: u8) -> bool
     ensures { λ r. ⌜ r ≡ (eqb marked 1 && eqb (sent + 1) work) ⌝ }
 {
@@ -59,7 +59,7 @@ pub fn is_delivered(marked: u8, sent: u8, work: u8) -> bool
     work - sent == 1
 }
 
-// In the last slot before its absolute deadline, and still short after it.
+// Rule 6, dropped: in the last slot before its absolute deadline, and still short of C after it.
 pub fn is_dropped(t: Slot, start: Slot, due: Slot, after: u8, work: u8) -> bool
     ensures { λ r. ⌜ r ≡ (leb (start .0) (t .0) && eqb (t .0 + 1) (due .0) && ltb after work) ⌝ }
 {

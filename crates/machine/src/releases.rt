@@ -2,7 +2,7 @@
 // costs one comparison and one with a release divides nothing.
 ghost use mathlib.Core.Path.{_≡_};
 ghost use Prim.Native.Nat.{_+_, _<_, _≤_, min, ℕ};
-ghost use lib.ListN.{getD, length};
+ghost use lib.ListN.{getD};
 ghost use Rattle.machine.specs.LentArrays.{PerFlow, numbersAt, packetsOf, releasesAfter, releasesAt, runArraysAfter, runArraysAt};
 ghost use Rattle.machine.specs.NextReleases.{NoneBefore, Released};
 ghost use Rattle.model.specs.Limits.{lastSlot, mostFlows};

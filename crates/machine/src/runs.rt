@@ -1,13 +1,13 @@
 // A run: slot after slot from the fresh state, with the counts of delivered and dropped packets in place of the sends.
 ghost use mathlib.Core.Path.{_≡_};
-ghost use Prim.Native.Nat.{_+_, _/_, _<_, _≤_, min, ℕ};
+ghost use Prim.Native.Nat.{_+_, _<_, _≤_, min, ℕ};
 ghost use lib.ListN.{getD, length};
-ghost use Rattle.model.specs.Sets.{filterTo, used};
+ghost use Rattle.model.specs.Sets.{used};
 ghost use Rattle.machine.specs.ArrayLists.{Through};
 ghost use Rattle.machine.specs.LentArrays.{PerFlow, linksAt, linksOf, numbersAt, numbersOf, packetsAt, runArraysAfter, runArraysAt, runArraysOf};
 ghost use Rattle.machine.specs.ReadyOrder.{FlowsTo};
 ghost use Rattle.machine.specs.SlotAnswers.{countBy, deliveredTo, droppedTo};
-ghost use Rattle.model.specs.Limits.{lastSlot, mostChannels, mostFlows, mostLinks};
+ghost use Rattle.model.specs.Limits.{lastSlot, mostChannels, mostFlows};
 ghost use mathlib.Core.Logic.{_⊎_};
 ghost use Rattle.machine.specs.RunSlots.{AfterSlot};
 ghost use Rattle.machine.specs.RunSoFar.{RunOfSome, SlotRuns, SlotsRun};

@@ -51,7 +51,7 @@ pub fn refused(fault: Fault, st: State) -> Stepped
     }
 }
 
-// 12: a slot above the last, or a count above its flow's C, which is 0 beyond the last flow.
+// Refusal 12: a slot above the last, or a count above its flow's C, which is 0 beyond the last flow.
 fn is_bad(t: u32, sent: &[u8; Flow::MOST], work: &[u8; Flow::MOST]) -> bool
     ensures { λ r. ⌜ r ≡ badBy t (now (sent .entry)) (now (work .entry)) ⌝ }
 {
@@ -68,7 +68,7 @@ fn is_bad(t: u32, sent: &[u8; Flow::MOST], work: &[u8; Flow::MOST]) -> bool
     false
 }
 
-// What is wrong with a state, by its slot and its counts: 12, then 11.
+// What is wrong with a state, by its slot and its counts: refusal 12, then 11.
 pub fn state_fault(t: u32, sent: &[u8; Flow::MOST], work: &[u8; Flow::MOST]) -> Fault
     ensures { λ r. ⌜ r ≡ cond (badBy t (now (sent .entry)) (now (work .entry))) (faultAt BadState 0)
         (cond (leb lastSlot t) (faultAt AtLastSlot 0) noFault) ⌝ }

@@ -1,6 +1,6 @@
 -- `restart` gives what each flow's packet has had in turn. Assumes nothing.
-use Rattle.machine.specs.PacketNumbers.{hadIn, sum-fits}
-use Rattle.machine.specs.ArrayLists.{Through, through-none, through-next}
+use Rattle.machine.specs.PacketNumbers.{hadBy, hadIn, sum-fits}
+use Rattle.machine.specs.ArrayLists.{Through, through-none, through-next, through-done}
 use lib.ListN.{getD}
 use native.Mathlib.Nat.{le-refl}
 use native.Mathlib.Omega.{arith}
@@ -8,13 +8,13 @@ use Prim.{tt}
 use mathlib.Core.Bool.{cond}
 use lib.Dec.{eqb}
 use Prim.Native.Nat.{ℕ, _-_, _≤_}
-use mathlib.Core.Path.{_≡_, ap, _∙_}
+use mathlib.Core.Path.{ap, _∙_}
 use borrow.Author.Needs.{needs}
 use Rattle.machine.proofs.columns.restart.Statement.{statement}
 use Rattle.machine.proofs.columns.restart.Tie as tie
 
 abbrev Inv-loop : tie.InvT-loop
-Inv-loop count t deadline due sent₀ k₀ sent k = (k ≤ count) × Through (λ j. hadIn (getD due j 0) (getD deadline j 0) t (getD sent₀ j 0)) k sent₀ sent
+Inv-loop count t deadline due sent₀ k₀ sent k = (k ≤ count) × Through (hadBy due deadline t sent₀) k sent₀ sent
 
 abbrev μ-loop : tie.MeasureT-loop
 μ-loop count t deadline due sent₀ k₀ sent k = count - k
@@ -35,9 +35,7 @@ loop-again c =
     (search needs, through-next _ (v .k) _ _ _ (omega arith) e (v .inv .1))
 
 returns : tie.Need-returns Inv-loop μ-loop
-returns c =
-    let e : c .before .loop .k ≡ c .before .before .args .count = search needs in
-    rw (← e) (c .before .loop .inv .1)
+returns c = through-done _ _ _ _ _ (c .before .loop .inv .0) (c .loop-test .left) (c .before .loop .inv .1)
 
 pub restart-spec : {M : Type 1} → statement M
 restart-spec =

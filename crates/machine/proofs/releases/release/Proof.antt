@@ -3,10 +3,9 @@ use Rattle.machine.specs.PacketNumbers.{sum-fits}
 use Rattle.machine.specs.ArrayLists.{through-none}
 use Rattle.machine.specs.LentArrays.{releasesOf}
 use Rattle.machine.specs.NextReleases.{NoneBefore, Released, released-now, released-later, soon-set, soon-stay}
-use lib.ListN.{getD}
 use native.Mathlib.Omega.{arith}
 use Prim.{tt}
-use Prim.Native.Nat.{ℕ, _-_, _≤_, _<_}
+use Prim.Native.Nat.{_-_, _≤_}
 use mathlib.Core.Path.{_≡_, _∙_}
 use borrow.Author.Needs.{needs}
 use Rattle.machine.proofs.releases.release.Statement.{statement}

@@ -1,5 +1,5 @@
 -- `count_and_advance` takes the flows in turn: each adds what it is to the counts. Assumes nothing.
-use Rattle.machine.specs.LentArrays.{Packets, packetsOf}
+use Rattle.machine.specs.LentArrays.{packetsOf}
 use Rattle.machine.specs.SlotAnswers.{countBy, deliveredBy, deliveredTo, droppedBy, droppedTo}
 use Rattle.machine.specs.ArrayLists.{Through, through-none, through-next, length-filterTo, filter-le}
 use Rattle.laws.specs.SumLaws.{sum-next}

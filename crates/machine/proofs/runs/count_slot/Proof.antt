@@ -1,14 +1,10 @@
 -- `count_slot` chooses and counts what was chosen. Assumes nothing.
-use Rattle.machine.specs.ArrayLists.{getD-zeros}
+use Rattle.machine.specs.ArrayLists.{bit-one, getD-zeros}
 use Rattle.machine.specs.PlacedChoice.{Choice}
 use Rattle.model.specs.Sets.{memb}
-use Rattle.model.specs.Sums.{bit}
 use lib.ListN.{getD}
 use mathlib.Core.List.{List}
-use native.Mathlib.Nat.{le-refl}
-use native.Mathlib.Omega.{arith}
 use Prim.Native.Nat.{ℕ, _≤_}
-use mathlib.Core.Bool.{Bool, true, false}
 use mathlib.Core.Path.{refl}
 use borrow.Author.Needs.{needs}
 use Rattle.model.specs.Limits.{mostFlows}
@@ -16,11 +12,7 @@ use Rattle.machine.proofs.runs.count_slot.Statement.{statement}
 use Rattle.machine.proofs.runs.count_slot.Tie as tie
 
 mark-le : (placed chosen marked : List ℕ) (n : ℕ) → Choice placed chosen marked n → (k : ℕ) → getD marked k 0 ≤ 1
-mark-le placed chosen marked n c k = rw (c .marks k) (go (memb k placed))
-  where
-    go : (b : Bool) → bit b ≤ 1
-    go true = le-refl 1
-    go false = omega arith
+mark-le placed chosen marked n c k = rw (c .marks k) (bit-one (memb k placed))
 
 choose-requires : tie.Need-choose-requires
 choose-requires c κs =
