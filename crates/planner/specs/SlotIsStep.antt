@@ -18,9 +18,9 @@ use Rattle.document.specs.Program.{stateOf, stateBytes, stateLength, slotLines,
 use Rattle.laws.specs.Accepted.{or-else-good}
 use Rattle.machine.specs.StepLines.{lines-of}
 use Rattle.planner.specs.StateBytes.{with-state}
-use Rattle.planner.specs.BeforeStep.{faultBeforeStep}
+use Rattle.planner.specs.BeforeStep.{PassesIfRead, faultBeforeStep}
 use Rattle.planner.specs.StepWritten.{stepLines, written, roomFault, stepAnswer, stepState, stepBuffer}
-use Rattle.document.specs.Reader.{refusedWriting}
+use Rattle.document.specs.Reader.{recordFault, refusedWriting}
 use Rattle.document.specs.ForC.{slotAnswer}
 
 abbrev stepFor : Reading → List ℕ → Stepped
@@ -135,6 +135,9 @@ module _ (r : Reading) (state : List ℕ) (f : Fault) (q : PassedBefore r state 
 
   pub state-whole : length state ≡ stateLength
   state-whole = eqb-true (length state) stateLength (before-good (r .fault) (length state) before-passed .1)
+
+  pub set-passes : PassesIfRead r → good (recordFault (used (r .set)) .refusal) ≡ true
+  set-passes p = p (before-good (r .fault) (length state) before-passed .0)
 
   pub step-answered : (a : Stepped) (lines : List ℕ) → a ≡ stepFor r state
       → Answered r state lines (stepAnswer a (length lines)) (stepState a state (length lines)) (stepBuffer a lines)

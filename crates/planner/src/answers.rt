@@ -3,6 +3,7 @@ ghost use mathlib.Core.Path.{_≡_};
 ghost use mathlib.Core.Bool.{cond};
 ghost use lib.Dec.{ltb};
 ghost use Rattle.document.specs.Delay.{refusedBounds, refusedVerdict};
+ghost use Rattle.document.specs.Reader.{refusedWriting};
 ghost use Rattle.document.specs.ForC.{boundsNumbers, boundsOfReading, slotNumbers, verdictNumbers, verdictOfReading};
 use model::Bounds;
 use model::BoundsAnswer;
@@ -62,6 +63,13 @@ fn refused_bounds(fault: Fault) -> Bounds
         deadline: Span(0),
         margin: 0,
     }
+}
+
+// A refusal, nothing written.
+pub fn refused_writing(fault: Fault) -> Written
+    ensures { λ r. ⌜ r ≡ refusedWriting fault ⌝ }
+{
+    Written { fault, length: 0 }
 }
 
 // The bounds of one flow of the set that was read, or the reader's refusal.

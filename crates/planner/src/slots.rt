@@ -2,12 +2,12 @@
 ghost use mathlib.Core.Path.{_≡_};
 ghost use lib.ListN.{length, take};
 ghost use Rattle.model.specs.Refusals.{orElse};
-ghost use Rattle.document.specs.Reader.{refusedWriting};
 ghost use Rattle.document.specs.Program.{sendLines, slotBuffer, slotState};
 ghost use Rattle.document.specs.ForC.{slotAnswer};
 ghost use Rattle.text.specs.Put.{Put};
-ghost use Rattle.planner.specs.BeforeStep.{faultBeforeStep, lengthFault};
+ghost use Rattle.planner.specs.BeforeStep.{PassesIfRead, faultBeforeStep, lengthFault};
 ghost use Rattle.planner.specs.StepWritten.{stepAnswer, stepBuffer, stepState};
+use crate::answers::refused_writing;
 use crate::state_bytes;
 use crate::state_bytes::put_state;
 use crate::state_bytes::state_of;
@@ -19,13 +19,6 @@ use model::Send;
 use model::Stepped;
 use model::Written;
 use text::put_sends;
-
-// A refusal, nothing written.
-fn refused_writing(fault: Fault) -> Written
-    ensures { λ r. ⌜ r ≡ refusedWriting fault ⌝ }
-{
-    Written { fault, length: 0 }
-}
 
 // The first fault, if it refuses something, before the later one.
 fn or_else(first: Fault, later: Fault) -> Fault
@@ -90,8 +83,10 @@ fn write_step(state: &mut [u8], lines: &mut [u8], stepped: Stepped) -> Written
     }
 }
 
-// One slot of the set that was read, or the refusal before the step.
+// One slot of the set that was read, or the refusal before the step. A set that the reader accepts passes the record check, so it is not
+// checked again.
 pub fn slot_of_reading(reading: Reading, state: &mut [u8], lines: &mut [u8]) -> Written
+    requires { ⌜ PassesIfRead reading ⌝ }
     ensures { λ r. ⌜ r ≡ slotAnswer reading (now (state .entry)) (length (now (lines .entry))) ⌝ }
     ensures { λ r. ⌜ now (state .exit) ≡ slotState reading (now (state .entry)) (length (now (lines .entry))) ⌝ }
     ensures { λ r. ⌜ now (lines .exit) ≡ slotBuffer reading (now (state .entry)) (now (lines .entry)) ⌝ }
@@ -102,6 +97,6 @@ pub fn slot_of_reading(reading: Reading, state: &mut [u8], lines: &mut [u8]) -> 
     }
     let set = reading.set;
     let st = state_of(state);
-    let stepped = machine::step(set, st);
+    let stepped = machine::step_accepted(set, st);
     write_step(state, lines, stepped)
 }

@@ -4,9 +4,15 @@ use lib.ListN.{length}
 use Rattle.model.specs.declared.answers.Reading.{Reading}
 use Rattle.document.specs.Program.{slotState, slotBuffer}
 use Rattle.document.specs.ForC.{slotAnswer, slotForC, slotNumbers}
+use Rattle.promise.specs.TextHeld.{text-passes}
 use borrow.Author.Needs.{needs}
 use Rattle.planner.proofs.rembasuk_slot.Statement.{statement}
 use Rattle.planner.proofs.rembasuk_slot.Tie as tie
+
+slot-of-reading-requires : tie.Need-slot-of-reading-requires
+slot-of-reading-requires c κs =
+    let o = c .before .before in
+    rw (o .read .ensures) (text-passes (o .before .before .before .before .args .text .now))
 
 returns : tie.Need-returns
 unfolding slotForC
@@ -27,4 +33,4 @@ returns c =
 pub rembasuk-slot-spec : {M : Type 1} → statement M
 rembasuk-slot-spec =
     tie.close
-    (tie.spec (λ c κs. search needs) (λ c κs. search needs) (λ c κs. search needs) (λ c. search needs) (λ c. search needs) returns)
+    (tie.spec (λ c κs. search needs) slot-of-reading-requires (λ c κs. search needs) (λ c. search needs) (λ c. search needs) returns)

@@ -4,7 +4,7 @@ use Rattle.model.specs.declared.kinds.State.{State}
 use Rattle.model.specs.Sets.{used}
 use Rattle.document.specs.Machine.{stepOf}
 use Rattle.planner.specs.Refuses.{accepts, refuses}
-use Rattle.planner.specs.SlotIsStep.{PassedBefore, answered-before, state-whole, step-answered}
+use Rattle.planner.specs.SlotIsStep.{PassedBefore, answered-before, set-passes, state-whole, step-answered}
 use Rattle.planner.specs.StateBytes.{state-in}
 use borrow.Author.Needs.{needs}
 use Rattle.planner.proofs.slots.slot_of_reading.Statement.{statement}
@@ -19,26 +19,38 @@ returns c =
     let w = answered-before (a .reading) (a .state .now) (a .lines .now) f (b .fault-before-step .ensures) g in
     (c .refused-writing .ensures ∙ w .0, w .1)
 
+-- nothing is refused before the step
+passed-before : (l : tie.Else1)
+    → let b = l .before .before in
+    let a = b .before .before .before .args in
+    PassedBefore (a .reading) (a .state .now) (b .fault-before-step .result)
+passed-before l =
+    let b = l .before .before in
+    record {
+      fault-is = b .fault-before-step .ensures;
+      passed = accepts (b .fault-before-step .result) (l .before .refuses .ensures) (l .if1 .left);
+      bits = b .before .before .before .good .0 .1 .1 .1 .0 .1 .1 .0 .1 .1 .0 .1;
+    }
+
+step-accepted-requires : tie.Need-step-accepted-requires
+step-accepted-requires c κs =
+    let l = c .before .before .before in
+    let s = l .before .before .before .before .before in
+    set-passes (s .args .reading) (s .args .state .now) _ (passed-before l) (s .pre)
+
 returns-2 : tie.Need-returns-2
 returns-2 c =
     let v = c .before .before .before .before in
     let p = v .before .before .before in
     let o = p .before in
     let l = o .before .before .before in
-    let b = l .before .before in
-    let s = b .before .before .before in
-    let a = s .args in
-    let f = b .fault-before-step .result in
-    let q : PassedBefore (a .reading) (a .state .now) f =
-    record {
-      fault-is = b .fault-before-step .ensures;
-      passed = accepts f (l .before .refuses .ensures) (l .if1 .left);
-      bits = s .good .0 .1 .1 .1 .0 .1 .1 .0 .1 .1 .0 .1;
-    } in
+    let a = l .before .before .before .before .before .args in
+    let f = l .before .before .fault-before-step .result in
+    let q = passed-before l in
     let e = state-whole (a .reading) (a .state .now) f q in
-    let step-is = p .step .ensures ∙ ap (λ (st : State). stepOf (used (a .reading .set)) st) (o .state-of .ensures ∙ state-in (a .state .now) e) in
+    let step-is = p .step-accepted .ensures ∙ ap (λ (st : State). stepOf (used (a .reading .set)) st) (o .state-of .ensures ∙ state-in (a .state .now) e) in
     let w = v .write-step .ensures in
-    let z = step-answered (a .reading) (a .state .now) f q (p .step .result) (a .lines .now) step-is in
+    let z = step-answered (a .reading) (a .state .now) f q (p .step-accepted .result) (a .lines .now) step-is in
     (w .0 ∙ z .0, (w .1 .0 ∙ z .1 .0, w .1 .1 ∙ z .1 .1))
 
 pub slot-of-reading-spec : {M : Type 1} → statement M
@@ -50,7 +62,7 @@ slot-of-reading-spec =
     (λ c κs. search needs)
     returns
     (λ c κs. search needs)
-    (λ c κs. search needs)
+    step-accepted-requires
     (λ c κs. search needs)
     (λ c. search needs)
     (λ c. search needs)
