@@ -10,7 +10,13 @@ use model::Flow;
 use model::Slot;
 use model::State;
 
-type SlotBytes = [u8; 4];
+// How many bytes a slot has.
+const SLOT: usize = 4;
+
+// How many bytes a state has: the slot's, and a count byte for each flow.
+pub const LENGTH: usize = SLOT + Flow::MOST;
+
+type SlotBytes = [u8; SLOT];
 
 // The four bytes of a slot, lowest first.
 fn slot_bytes(t: u32) -> SlotBytes
@@ -22,9 +28,6 @@ fn slot_bytes(t: u32) -> SlotBytes
     let highest = (t / 16777216 % 256) as u8;
     [lowest, low, high, highest]
 }
-
-// How many bytes a state has.
-pub const LENGTH: usize = 68;
 
 // A byte with the bound that it has by its width.
 fn wide(b: u8) -> u32
@@ -49,7 +52,7 @@ fn counts_of(b: &[u8]) -> [u8; Flow::MOST]
     let mut sent = [0u8; Flow::MOST];
     let mut k: usize = 0;
     while k < Flow::MOST {
-        sent[k] = b[k + 4];
+        sent[k] = b[k + SLOT];
         k += 1;
     }
     sent
@@ -87,7 +90,7 @@ fn put_counts(b: &mut [u8], sent: [u8; Flow::MOST])
 {
     let mut k: usize = 0;
     while k < Flow::MOST {
-        b[k + 4] = sent[k];
+        b[k + SLOT] = sent[k];
         k += 1;
     }
 }

@@ -9,11 +9,12 @@ use Prim.Native.Nat.{_≤_, _-_, _+_}
 use lib.ListN.{length, take}
 use borrow.Author.Needs.{needs}
 use Rattle.model.specs.Limits.{mostFlows}
+use Rattle.document.specs.Program.{stateLength}
 use Rattle.planner.proofs.state_bytes.put_counts.Statement.{statement}
 use Rattle.planner.proofs.state_bytes.put_counts.Tie as tie
 
 abbrev Inv-loop : tie.InvT-loop
-Inv-loop b₀ sent k₀ b k = (k ≤ mostFlows) × (length b ≡ 68) × (length sent ≡ mostFlows) × (take (k + 4) b ≡ take 4 b₀ ++ take k sent)
+Inv-loop b₀ sent k₀ b k = (k ≤ mostFlows) × (length b ≡ stateLength) × (length sent ≡ mostFlows) × (take (k + 4) b ≡ take 4 b₀ ++ take k sent)
 
 abbrev μ-loop : tie.MeasureT-loop
 μ-loop b₀ sent k₀ b k = mostFlows - k
@@ -23,13 +24,17 @@ loop-holds c = (search needs, search needs, c .good .1 .0 .1 .0 .1, sym (append-
 
 loop-again : tie.Need-loop-again Inv-loop μ-loop
 loop-again c =
-    let k = c .before .loop .k in
-    let e : k + 1 + 4 ≡ k + 4 + 1 = omega arith in
-    (search needs, search needs, c .before .loop .inv .2, rw e (copy-more (take 4 (c .before .before .args .b .now)) (c .before .before .args .t2) (c .before .loop .b) (k + 4) k (omega arith) (omega arith) (c .before .loop .inv .3)))
+    let l = c .before .loop in
+    let a = c .before .before .args in
+    let e : l .k + 1 + 4 ≡ l .k + 4 + 1 = omega arith in
+    let m = copy-more (take 4 (a .b .now)) (a .t2) (l .b) (l .k + 4) (l .k) (omega arith) (omega arith) (l .inv .3) in
+    (search needs, search needs, l .inv .2, rw e m)
 
 returns : tie.Need-returns Inv-loop μ-loop
 returns c =
-    copy-all (take 4 (c .before .before .args .b .now)) (c .before .before .args .t2) (c .before .loop .b) (c .before .loop .k + 4) (c .before .loop .k) (omega arith) (omega arith) (c .before .loop .inv .3)
+    let l = c .before .loop in
+    let a = c .before .before .args in
+    copy-all (take 4 (a .b .now)) (a .t2) (l .b) (l .k + 4) (l .k) (omega arith) (omega arith) (l .inv .3)
 
 pub put-counts-spec : {M : Type 1} → statement M
 put-counts-spec =
