@@ -11,7 +11,7 @@ use Rattle.model.specs.declared.answers.Written.{Written}
 use Rattle.model.specs.declared.answers.Stepped.{Stepped}
 use Rattle.model.specs.Refusals.{good, faultAt, noFault}
 use Rattle.planner.specs.StateBytes.{withState}
-use Rattle.planner.specs.StepWritten.{stepLines, roomFault, stepAnswer, stepState, stepBuffer}
+use Rattle.planner.specs.StepWritten.{stepLines, written, roomFault, stepAnswer, stepState, stepBuffer}
 use Rattle.document.specs.Reader.{refusedWriting}
 
 -- the answer, the state and the buffer after a step
@@ -37,6 +37,6 @@ unfolding roomFault
 left-no-room a state lines h l = left a state lines (faultAt NoRoom 0) (rw (h, lt-ltb (length lines) (length (stepLines a)) l))
 
 pub left-written : (a : Stepped) (state lines : List ℕ) → good (a .fault .refusal) ≡ true → length (stepLines a) ≤ length lines
-    → Left a state lines (record { fault = noFault; length = length (stepLines a) }) (withState (a .next) state) (stepLines a ++ drop (length (stepLines a)) lines)
+    → Left a state lines (written noFault (length (stepLines a))) (withState (a .next) state) (stepLines a ++ drop (length (stepLines a)) lines)
 unfolding roomFault
 left-written a state lines h l = left a state lines noFault (rw (h, le-ltb (length lines) (length (stepLines a)) l))

@@ -1,5 +1,4 @@
 pub mod BeforeStep
-pub mod Refuses
 pub mod SlotBytes
 pub mod StateBytes
 pub mod StateCopy

@@ -4,14 +4,17 @@ use Rattle.model.specs.Sets.{used}
 use Rattle.document.specs.Delay.{boundsOf}
 use Rattle.document.specs.ForC.{boundsOfReading}
 use Rattle.planner.specs.FlowBeyondLast.{bounds-cut}
-use Rattle.planner.specs.Refuses.{accepts, refuses}
+use Rattle.laws.specs.Codes.{accepts, refuses}
 use borrow.Author.Needs.{needs}
 use Rattle.planner.proofs.answers.bounds_of_reading.Statement.{statement}
 use Rattle.planner.proofs.answers.bounds_of_reading.Tie as tie
 
 returns : tie.Need-returns
 unfolding boundsOfReading
-returns c = rw (refuses (c .before .before .before .before .args .reading .fault) (c .before .before .refuses .ensures) (c .before .if1 .taken)) (c .refused-bounds .ensures)
+returns c =
+    let tested = c .before .before in
+    let f = tested .before .before .args .reading .fault in
+    rw (refuses f (tested .refuses .ensures) (c .before .if1 .taken)) (c .refused-bounds .ensures)
 
 returns-2 : tie.Need-returns-2
 unfolding boundsOfReading

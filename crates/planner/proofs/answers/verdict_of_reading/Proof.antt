@@ -1,17 +1,23 @@
 -- `verdict_of_reading` goes by whether the reader refuses, as the definition does. Assumes nothing.
 use Rattle.document.specs.ForC.{verdictOfReading}
-use Rattle.planner.specs.Refuses.{accepts, refuses}
+use Rattle.laws.specs.Codes.{accepts, refuses}
 use borrow.Author.Needs.{needs}
 use Rattle.planner.proofs.answers.verdict_of_reading.Statement.{statement}
 use Rattle.planner.proofs.answers.verdict_of_reading.Tie as tie
 
 returns : tie.Need-returns
 unfolding verdictOfReading
-returns c = rw (refuses (c .before .before .before .before .args .reading .fault) (c .before .before .refuses .ensures) (c .before .if1 .taken)) (c .refused-verdict .ensures)
+returns c =
+    let tested = c .before .before in
+    let f = tested .before .before .args .reading .fault in
+    rw (refuses f (tested .refuses .ensures) (c .before .if1 .taken)) (c .refused-verdict .ensures)
 
 returns-2 : tie.Need-returns-2
 unfolding verdictOfReading
-returns-2 c = rw (accepts (c .before .before .before .before .before .args .reading .fault) (c .before .before .before .refuses .ensures) (c .before .before .if1 .left)) (c .verdict .ensures .0)
+returns-2 c =
+    let tested = c .before .before .before in
+    let f = tested .before .before .args .reading .fault in
+    rw (accepts f (tested .refuses .ensures) (c .before .before .if1 .left)) (c .verdict .ensures .0)
 
 pub verdict-of-reading-spec : {M : Type 1} → statement M
 verdict-of-reading-spec =

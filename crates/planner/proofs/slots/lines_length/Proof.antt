@@ -10,7 +10,8 @@ use Rattle.planner.proofs.slots.lines_length.Tie as tie
 returns : tie.Need-returns
 returns c =
     let s = c .before .before .before in
-    put-length (c .before .put-sends .ensures) (le-trans (sends-take-le (s .args .n) mostChannels (s .args .sent) (le-of-eq (s .good .0 .1 .0 .1))) (omega arith))
+    let h = sends-take-le (s .args .n) mostChannels (s .args .sent) (le-of-eq (s .good .0 .1 .0 .1)) in
+    put-length (c .before .put-sends .ensures) (le-trans h (omega arith))
 
 pub lines-length-spec : {M : Type 1} → statement M
 lines-length-spec = tie.close (tie.spec (λ c. search needs) (λ c κs. search needs) returns)

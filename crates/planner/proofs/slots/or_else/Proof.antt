@@ -1,5 +1,5 @@
 -- `or_else` goes by whether the first fault refuses. Assumes nothing.
-use Rattle.planner.specs.Refuses.{accepts, refuses}
+use Rattle.laws.specs.Codes.{accepts, refuses}
 use borrow.Author.Needs.{needs}
 use Rattle.planner.proofs.slots.or_else.Statement.{statement}
 use Rattle.planner.proofs.slots.or_else.Tie as tie

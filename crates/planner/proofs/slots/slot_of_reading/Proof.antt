@@ -3,7 +3,7 @@ use mathlib.Core.Path.{ap, _∙_}
 use Rattle.model.specs.declared.kinds.State.{State}
 use Rattle.model.specs.Sets.{used}
 use Rattle.document.specs.Machine.{stepOf}
-use Rattle.planner.specs.Refuses.{accepts, refuses}
+use Rattle.laws.specs.Codes.{accepts, refuses}
 use Rattle.planner.specs.SlotIsStep.{PassedBefore, answered-before, set-passes, state-whole, step-answered}
 use Rattle.planner.specs.StateBytes.{state-in}
 use borrow.Author.Needs.{needs}

@@ -6,7 +6,7 @@ use lib.ListN.{length}
 use Rattle.document.specs.Reader.{refusedWriting}
 use Rattle.text.specs.Lengths.{put-start}
 use Rattle.planner.specs.AfterStep.{left-refused, left-no-room, left-written}
-use Rattle.planner.specs.Refuses.{accepts, refuses}
+use Rattle.laws.specs.Codes.{accepts, refuses}
 use Rattle.planner.specs.StepWritten.{stepLines, written}
 use borrow.Author.Needs.{needs}
 use Rattle.planner.proofs.slots.write_step.Statement.{statement}
@@ -15,7 +15,8 @@ use Rattle.planner.proofs.slots.write_step.Tie as tie
 returns : tie.Need-returns
 returns c =
     let a = c .before .before .before .before .before .before .args in
-    let w = left-refused (a .stepped) (a .state .now) (a .lines .now) (refuses (a .stepped .fault) (c .before .before .refuses .ensures) (c .before .if1 .taken)) in
+    let g = refuses (a .stepped .fault) (c .before .before .refuses .ensures) (c .before .if1 .taken) in
+    let w = left-refused (a .stepped) (a .state .now) (a .lines .now) g in
     (c .refused-writing .ensures ∙ w .0, w .1)
 
 returns-2 : tie.Need-returns-2

@@ -18,12 +18,16 @@ abbrev μ-loop : tie.MeasureT-loop
 
 loop-again : tie.Need-loop-again Inv-loop μ-loop
 loop-again c =
-    (search needs, search needs, copy-after 4 (c .before .before .before .args .b .now) (c .before .before .loop .sent) (c .before .before .loop .k) (omega arith) (omega arith) (c .before .before .loop .inv .2))
+    let l = c .before .before in
+    let b = l .before .args .b .now in
+    (search needs, search needs, copy-after 4 b (l .loop .sent) (l .loop .k) (omega arith) (omega arith) (l .loop .inv .2))
 
 returns : tie.Need-returns Inv-loop μ-loop
 returns c =
-    let h : length (drop 4 (c .before .before .args .b .now)) ≤ c .before .loop .k = simp length-drop (omega arith) in
-    copy-all [] (drop 4 (c .before .before .args .b .now)) (c .before .loop .sent) (c .before .loop .k) (c .before .loop .k) (omega arith) h (c .before .loop .inv .2)
+    let l = c .before .loop in
+    let from = drop 4 (c .before .before .args .b .now) in
+    let h : length from ≤ l .k = simp length-drop (omega arith) in
+    copy-all [] from (l .sent) (l .k) (l .k) (omega arith) h (l .inv .2)
 
 pub counts-of-spec : {M : Type 1} → statement M
 counts-of-spec =
