@@ -4,6 +4,7 @@ use mathlib.Core.Bool.{Bool, true, false, not}
 use Prim.Native.Nat.{ℕ, _≤_, _<_}
 use native.Mathlib.Nat.{mul-le-mul}
 use native.Mathlib.Omega.{arith}
+use borrow.Author.Tests.{not-true, not-false}
 use Rattle.model.specs.declared.kinds.Flow.{Flow}
 use Rattle.model.specs.declared.kinds.FlowSet.{FlowSet}
 use Rattle.model.specs.declared.answers.Fault.{Fault}
@@ -12,14 +13,6 @@ use Rattle.model.specs.Refusals.{good}
 use Rattle.model.specs.Sets.{flowAt, exact, used, links, work}
 use Rattle.laws.specs.Accepted.{Accepted, GoodFlow}
 use Rattle.laws.specs.Used.{used-flow, used-count}
-
-not-false : (x : Bool) → not x ≡ false → x ≡ true
-not-false true e = refl
-not-false false e = sym e
-
-not-true : (x : Bool) → not x ≡ true → x ≡ false
-not-true true e = sym e
-not-true false e = refl
 
 -- whether the check refuses the set
 pub not-refused : (f g : Fault) (b : Bool) → f ≡ g → b ≡ not (good (f .refusal)) → b ≡ false → good (g .refusal) ≡ true

@@ -8,7 +8,8 @@ use Rattle.model.specs.Limits.{mostChannels, lastSlot}
 use Rattle.model.specs.Sets.{used}
 use Rattle.document.specs.Machine.{ahead, runOf}
 use Rattle.machine.specs.States.{run-cut}
-use Rattle.promise.specs.Demand.{Admitted, admitted-good, run-keeps}
+use Rattle.promise.specs.Promise.{Admitted}
+use Rattle.promise.specs.Demand.{admitted-good, run-keeps}
 
 pub never-drops : (s : FlowSet) → s .map .0 ≤ 65535 → (budget : ℕ) → Admitted (used s) → runOf (used s) budget .dropped ≡ 0
 never-drops s w budget a =

@@ -43,15 +43,6 @@ pub record GoodState (s : FlowSet) (st : State) : Type 0 where
   pub long : length (st .sent) ≡ mostFlows
   pub counts : (k : ℕ) → countAt st k ≤ mostCount s k
 
--- a fault that refuses is not good, and one that does not is
-pub refuses-not-good : (b : Bool) → not b ≡ true → b ≡ false
-refuses-not-good true h = absurd (false≢true h)
-refuses-not-good false h = refl
-
-pub not-refuses-good : (b : Bool) → not b ≡ false → b ≡ true
-not-refuses-good true h = refl
-not-refuses-good false h = absurd (false≢true (sym h))
-
 pub any-all : (p : ℕ → Bool) (n : ℕ) → ((k : ℕ) → k < n → p k ≡ false) → anyTo p n ≡ false
 unfolding anyTo
 any-all p zero h = refl

@@ -2,7 +2,7 @@
 ghost use mathlib.Core.Path.{_≡_};
 ghost use Rattle.model.specs.Sets.{used};
 ghost use Rattle.document.specs.Machine.{runOf, stepOf};
-ghost use Rattle.promise.specs.Demand.{Admitted};
+ghost use Rattle.promise.specs.Promise.{Admitted};
 
 mod choice;
 mod columns;

@@ -4,4 +4,3 @@ pub mod RunSlotBySlot
 pub mod BoundText
 pub mod PlanInBuffer
 pub mod PlanLength
-pub mod ReadingRefused

@@ -1,7 +1,7 @@
 -- Demand 3 holds of document 01's machine. The basic test is the list of deadlines, at which the equation's value is the basic bound; the
 -- tightened test is the rounds' list, which every round keeps above the smaller of deadline and value.
 use mathlib.Core.Path.{_≡_, refl, sym, ap, ap₂, _∙_}
-use mathlib.Core.Logic.{_⊎_, inl, inr}
+use mathlib.Core.Logic.{inl, inr}
 use mathlib.Core.Bool.{Bool, true, false}
 use mathlib.Core.List.{List}
 use Prim.Native.Nat.{ℕ, zero, suc, _+_, _≤_, _<_, _^_}
@@ -26,7 +26,7 @@ use Rattle.laws.specs.Used.{used-count, used-flow, used-map}
 use Rattle.laws.specs.Accepted.{accepted}
 use Rattle.laws.specs.Values.{value-at-deadlines}
 use Rattle.laws.specs.Rounds.{Between, between-deadlines, reached-between, accepted-fits}
-use Rattle.promise.specs.Promise.{SlotMachine, report, Apart, Kept, Held, Test, PromiseOf, TextPromiseOf, basic, tightened, Promise, TextPromise}
+use Rattle.promise.specs.Promise.{SlotMachine, report, Apart, Kept, Held, Test, PromiseOf, TextPromiseOf, basic, tightened, Promise, TextPromise, Admitted}
 use Rattle.promise.specs.SlotChoice.{Ordering}
 use Rattle.promise.specs.DeadlineOrder.{deadline-order}
 use Rattle.promise.specs.RunStates.{stateAt, report-step}
@@ -156,9 +156,6 @@ promise = (
     kept s w g n h bound f = flows-kept deadline-order (used s) g bound n h f (used-bits s w) (used-whole s w g)
 
 -- A run of an admitted set drops nothing: either test admits accepted sets only.
-abbrev pub Admitted : FlowSet → Type 0
-Admitted s = (verdictOf s .basic ≡ true) ⊎ (verdictOf s .tightened ≡ true)
-
 pub admitted-good : (s : FlowSet) → Admitted s → good (recordFault s .refusal) ≡ true
 unfolding verdictOf
 admitted-good s a = go (good (recordFault s .refusal)) refl a

@@ -1,6 +1,6 @@
 -- Demand 3: what a test of schedulability promises of a slot machine, for any test and any machine, and document 01's two tests. It is said of
 -- what the steps of the machine's run from the fresh state report.
-use mathlib.Core.{Bool.{Bool, true}, List.{List, map}, Logic.{_≢_}, Path.{_≡_}}
+use mathlib.Core.{Bool.{Bool, true}, List.{List, map}, Logic.{_≢_, _⊎_}, Path.{_≡_}}
 use Prim.Native.Nat.{ℕ, zero, suc, _+_, _*_, _/_, _%_, _^_, _≤_, _<_}
 use lib.ListN.{length, getD, take, drop, replicate}
 use Rattle.model.specs.declared.{answers.Send.{Send}, answers.SlotAnswer.{SlotAnswer}, answers.Stepped.{Stepped}, kinds.FlowSet.{FlowSet}, kinds.State.{State}}
@@ -81,6 +81,10 @@ basic = record { admits = λ s. verdictOf s .basic; bound = λ s k. boundsOf s k
 
 abbrev pub tightened : Test
 tightened = record { admits = λ s. verdictOf s .tightened; bound = λ s k. boundsOf s k .tightened }
+
+-- either test admits
+abbrev pub Admitted : FlowSet → Type 0
+Admitted s = (verdictOf s .basic ≡ true) ⊎ (verdictOf s .tightened ≡ true)
 
 -- Demand 3: both of them keep their promise, of accepted sets
 abbrev pub Promise : SlotMachine → Type 0

@@ -1,5 +1,6 @@
 -- `run` of a refused set stays where it began; of any other it is the accepted set's. Assumes nothing.
-use Rattle.machine.specs.States.{refuses-not-good, not-refuses-good, run-refused, run-none}
+use borrow.Author.Tests.{not-true, not-false}
+use Rattle.machine.specs.States.{run-refused, run-none}
 use Rattle.model.specs.Sets.{used}
 use Rattle.document.specs.Machine.{ahead}
 use Rattle.document.specs.Reader.{recordFault}
@@ -23,7 +24,7 @@ returns : tie.Need-returns
 returns c =
     let u = used (c .before .before .before .before .args .s) in
     let e = c .before .before .before .record-fault .ensures in
-    let n = refuses-not-good _ (sym (c .before .before .refuses .ensures) ∙ c .before .if1 .taken) in
+    let n = not-true _ (sym (c .before .before .refuses .ensures) ∙ c .before .if1 .taken) in
     let b : good (recordFault u .refusal) ≡ false = ap (λ (f : Fault). good (f .refusal)) (sym e) ∙ n in
     let r = run-refused ahead u b (c .before .before .before .before .args .budget) in
     (ap₂ (λ (f : Fault) (z : State). ranOf f z) e (c .fresh .ensures) ∙ sym (run-none ahead u) ∙ sym r, λ a. refl)
@@ -31,7 +32,7 @@ returns c =
 run-accepted-requires : tie.Need-run-accepted-requires
 run-accepted-requires c κs =
     let e = c .before .before .record-fault .ensures in
-    (ap (λ (f : Fault). good (f .refusal)) (sym e) ∙ not-refuses-good _ (sym (c .before .refuses .ensures) ∙ c .if1 .left), e)
+    (ap (λ (f : Fault). good (f .refusal)) (sym e) ∙ not-false _ (sym (c .before .refuses .ensures) ∙ c .if1 .left), e)
 
 returns-2 : tie.Need-returns-2
 returns-2 c =

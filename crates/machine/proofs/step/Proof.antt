@@ -1,5 +1,6 @@
 -- `step` of a refused set returns the fault; of any other it is the accepted set's. Assumes nothing.
-use Rattle.machine.specs.States.{refuses-not-good, not-refuses-good, step-refused}
+use borrow.Author.Tests.{not-true, not-false}
+use Rattle.machine.specs.States.{step-refused}
 use Rattle.document.specs.Machine.{ahead, stepped}
 use Rattle.model.specs.Sets.{used}
 use Rattle.document.specs.Reader.{recordFault}
@@ -16,13 +17,13 @@ returns : tie.Need-returns
 returns c =
     let a = c .before .before .before .before .args in
     let e = c .before .before .before .record-fault .ensures in
-    let n = refuses-not-good _ (sym (c .before .before .refuses .ensures) ∙ c .before .if1 .taken) in
+    let n = not-true _ (sym (c .before .before .refuses .ensures) ∙ c .before .if1 .taken) in
     let b : good (recordFault (used (a .s)) .refusal) ≡ false = ap (λ (f : Fault). good (f .refusal)) (sym e) ∙ n in
     c .refused .ensures ∙ ap (λ (f : Fault). stepped f (a .st) [] [] []) e ∙ sym (step-refused ahead (used (a .s)) (a .st) b)
 
 step-accepted-requires : tie.Need-step-accepted-requires
 step-accepted-requires c κs =
-    let g = not-refuses-good _ (sym (c .before .refuses .ensures) ∙ c .if1 .left) in
+    let g = not-false _ (sym (c .before .refuses .ensures) ∙ c .if1 .left) in
     ap (λ (f : Fault). good (f .refusal)) (sym (c .before .before .record-fault .ensures)) ∙ g
 
 pub step-spec : {M : Type 1} → statement M

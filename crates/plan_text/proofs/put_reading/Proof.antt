@@ -3,7 +3,7 @@ use Prim.{tt}
 use mathlib.Core.Path.{sym}
 use Rattle.text.specs.Put.{put-same}
 use Rattle.plan_text.specs.PlanInBuffer.{read-good, read-refused}
-use Rattle.plan_text.specs.ReadingRefused.{reading-accepted, reading-refused}
+use Rattle.laws.specs.Codes.{accepts, refuses}
 use Rattle.plan_text.proofs.put_reading.Statement.{statement}
 use Rattle.plan_text.proofs.put_reading.Tie as tie
 
@@ -14,14 +14,14 @@ returns : tie.Need-returns
 returns c =
     let d = c .before .before .before .before in
     let r = d .before .before .before .before .args .reading in
-    let e = read-refused r (reading-refused r (d .before .refuses .ensures) (d .if1 .taken)) in
+    let e = read-refused r (refuses (r .fault) (d .before .refuses .ensures) (d .if1 .taken)) in
     put-same _ _ _ _ _ _ (sym e) (c .before .before .put-refused .ensures)
 
 put-plan-requires : tie.Need-put-plan-requires
 put-plan-requires c κs =
     let d = c .before .before in
     let o = d .before .before .before .before in
-    o .pre (reading-accepted (o .args .reading) (d .before .refuses .ensures) (d .if1 .left))
+    o .pre (accepts (o .args .reading .fault) (d .before .refuses .ensures) (d .if1 .left))
 
 same-length-2 : tie.Need-same-length-2
 same-length-2 c = c .before .before .put-plan .kept .0
@@ -30,7 +30,7 @@ returns-2 : tie.Need-returns-2
 returns-2 c =
     let d = c .before .before .before .before .before in
     let r = d .before .before .before .before .args .reading in
-    let e = read-good r (reading-accepted r (d .before .refuses .ensures) (d .if1 .left)) in
+    let e = read-good r (accepts (r .fault) (d .before .refuses .ensures) (d .if1 .left)) in
     put-same _ _ _ _ _ _ (sym e) (c .before .before .put-plan .ensures)
 
 pub put-reading-spec : {M : Type 1} → statement M
