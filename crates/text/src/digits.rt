@@ -14,7 +14,7 @@ pub fn put_at(out: &mut [u8], at: usize, b: u8)
     }
 }
 
-// How many digits a number of at most five has.
+// How many digits a number below 100,000 has: at most five.
 fn width_to_five(v: u32) -> usize
     requires { ⌜ v < 100000 ⌝ }
     ensures { λ r. ⌜ (r ≡ length (decimal v)) × (r ≤ 5) ⌝ }
@@ -34,7 +34,7 @@ fn width_to_five(v: u32) -> usize
     5
 }
 
-// How many digits a number has, by comparisons: a set's numbers have at most five, and a longer one is divided once.
+// How many digits a number has, by comparisons. A number of a set has at most five; a longer number is divided once.
 fn width(v: u32) -> usize
     ensures { λ r. ⌜ (r ≡ length (decimal v)) × (r ≤ 10) ⌝ }
 {
