@@ -30,7 +30,7 @@ type Work<'a> = Box<dyn FnMut() -> u64 + 'a>;
 struct Row<'a> {
     name: String,
     clock: fn() -> f64,
-    /// How many calls or slots the work is.
+    /// How many slots the work is; 1 where it is a call.
     per: u32,
     proved: Work<'a>,
     second: Work<'a>,
@@ -44,7 +44,7 @@ impl<'a> Row<'a> {
         Row { name: name.into(), clock: own, per: 1, proved, second, runs: Vec::new() }
     }
 
-    /// The same where the work is so many calls or slots.
+    /// The same where the work is this many slots.
     fn per(mut self, per: u32) -> Row<'a> {
         self.per = per;
         self
@@ -100,7 +100,7 @@ fn shown(ns: f64) -> String {
     groups.collect::<Vec<_>>().join(",")
 }
 
-/// Nanoseconds of processor time of so many calls, for one.
+/// Nanoseconds of processor time of one call, out of this many.
 fn time(clock: fn() -> f64, calls: u32, work: &mut Work) -> f64 {
     let start = clock();
     for _ in 0..calls {

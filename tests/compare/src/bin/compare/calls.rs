@@ -63,7 +63,7 @@ pub fn walk(tally: &mut Tally, rng: &mut Rng) {
     walk_over(tally, rng, &bytes, 20);
 }
 
-/// So many slots of this text; one that finds no room for its lines is tried again.
+/// Slots of this text, this many; one that finds no room for its lines is tried again.
 pub fn walk_over(tally: &mut Tally, rng: &mut Rng, bytes: &[u8], slots: u32) {
     let text = Text::new(bytes);
     let mut state = bytes_of_state(&State::FRESH).to_vec();

@@ -41,8 +41,8 @@ pub fn at_the_limits(tally: &mut Tally) {
 fn expected(tally: &mut Tally, named: &Named, set: &Set) {
     let (text, record) = (named.text.as_bytes(), Record::new(set));
     for verdict in [compare::text_verdict(text), record.verdict()] {
-        let told = (verdict.basic == 1, verdict.tightened == 1, verdict.rounds);
-        tally.hold(named.name, set, told == named.verdict, || format!("{verdict:?}"));
+        let answer = (verdict.basic == 1, verdict.tightened == 1, verdict.rounds);
+        tally.hold(named.name, set, answer == named.verdict, || format!("{verdict:?}"));
     }
     for &(flow, basic, tightened) in &named.bounds {
         for bounds in [compare::text_bounds(text, flow), record.bounds(flow as u16)] {
