@@ -41,6 +41,7 @@ pub struct AllBounds {
     pub rounds: u32,
 }
 
+// Whether two tests hold.
 fn both(a: bool, b: bool) -> bool
     ensures { λ r. ⌜ r ≡ (a && b) ⌝ }
 {
