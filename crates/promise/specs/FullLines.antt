@@ -1,6 +1,6 @@
 -- An admitted set that needs all 576 bytes. Its last 16 flows, with two-digit numbers and five-digit nodes, are released in slot 1,000,000,100, and
 -- the ten before them are due before it. So no count of the state matters there: every state at that slot has those lines, the run's too.
-use mathlib.Core.Path.{_≡_, refl, sym, ap, _∙_}
+use mathlib.Core.Path.{_≡_, refl, sym, ap, ap₂, _∙_}
 use mathlib.Core.Bool.{Bool, true, not, _&&_, cond}
 use mathlib.Core.List.{List, [], _∷_, _++_}
 use Prim.Native.Nat.{ℕ, zero, suc, _+_, _-_, _*_, _%_, _<_}
@@ -8,14 +8,15 @@ use native.Mathlib.Nat.{add-zero}
 use native.Mathlib.Omega.{arith}
 use lib.Dec.{ltb, eqb}
 use lib.Count.{ones, onesIn}
-use lib.ListN.{length, length-append}
+use lib.ListN.{length, getD, take, length-append}
 use Rattle.model.specs.declared.kinds.{Flow.{Flow}, FlowSet.{FlowSet}, State.{State}}
+use Rattle.model.specs.declared.answers.Send.{Send}
 use Rattle.model.specs.Refusals.{good}
 use Rattle.model.specs.Sums.{sumTo, allTo}
 use Rattle.model.specs.Sets.{used, anyOf, meet}
 use Rattle.document.specs.Text.{setWord, flowWord, same, lines, ended, fields, allDigits, valueFrom, isNumber, allNumbers, valuesOf, wellFormed, numbersOf, decimalIn, decimal, tabbed, decimals, lineOf}
 use Rattle.document.specs.Reader.{twice, flowFault, flowsFault, recordFault, flowOf, withFlow, firstLineFault, flowLineFault, readFlows, setOf, readLines, readText}
-use Rattle.document.specs.Machine.{ready, insert, ordered, place, channelsTo, radioChannel, sendOf, sendsFrom, sendsAt, placedAt, placedWith, ahead, readyAt, clashAt}
+use Rattle.document.specs.Machine.{channels, ready, insert, ordered, place, channelsTo, radioChannel, sendOf, sendsFrom, sendsAt, placedAt, placedWith, ahead, readyAt, clashAt}
 use Rattle.document.specs.Delay.{conflictWork, share, overOthers, boundWith, basicBound, admits, verdictOf}
 use Rattle.document.specs.Program.{sendWord, sendNumbers, sendLines}
 use borrow.Author.Tests.{eqb-true}
@@ -122,14 +123,27 @@ lines-all s st k o (suc n) h =
 
 -- the numbers of line i, and its length
 abbrev numbersAt : ℕ → List ℕ
-numbersAt i = 1000000100 ∷ (10 + i) ∷ (10015 - i) ∷ (20015 - i) ∷ 0 ∷ (11 + (1000000100 + i) % 16) ∷ []
+numbersAt i = 1000000100 ∷ (10 + i) ∷ (10015 - i) ∷ (20015 - i) ∷ 0 ∷ getD (from 11 16) ((1000000100 + (0 + i)) % 16) 0 ∷ []
 
 all-long : allTo (λ i. eqb (length (lineOf sendWord (numbersAt i))) lineLength) 16 ≡ true
-unfolding allTo decimalIn decimal tabbed decimals lineOf
+unfolding from allTo decimalIn decimal tabbed decimals lineOf
 all-long = refl
 
 numbers-long : (i : ℕ) → i < 16 → length (lineOf sendWord (numbersAt i)) ≡ lineLength
 numbers-long i h = eqb-true _ lineLength (all-each (λ i. eqb (length (lineOf sendWord (numbersAt i))) lineLength) 16 all-long i h)
+
+-- the channels of the whole map
+channels-are : channels 65535 ≡ from 11 16
+unfolding channelsTo from
+channels-are = refl
+
+radio-is : (t o : ℕ) → radioChannel 65535 t o ≡ getD (from 11 16) ((t + o) % 16) 0
+unfolding radioChannel ones onesIn
+radio-is t o = ap (λ (l : List ℕ). getD l ((t + o) % 16) 0) channels-are
+
+-- the numbers of a send but for its channel
+abbrev firstFive : Send → List ℕ
+firstFive x = x .slot .0 ∷ x .flow ∷ x .from ∷ x .to ∷ x .attempt ∷ []
 
 -- What is computed of the set, in any state at that slot: the ten are not ready; each of the 16 goes after those before it, finds a channel and
 -- no conflict, and has a line of 36 bytes.
@@ -147,10 +161,10 @@ module _ (sent : List ℕ) where
   isFree i = ltb (length (from 10 i)) 16 && not (anyOf (clashAt crowdedSet (someState sent) (10 + i)) (from 10 i))
 
   abbrev isSent : ℕ → Bool
-  isSent i = same (sendNumbers (sendOf crowdedSet (someState sent) (10 + i) (0 + i))) (numbersAt i)
+  isSent i = same (firstFive (sendOf crowdedSet (someState sent) (10 + i) (0 + i))) (take 5 (numbersAt i))
 
   computed : (ordered earlier isReady 10 ≡ []) × (allTo goesLast 16 ≡ true) × (allTo isFree 16 ≡ true) × (allTo isSent 16 ≡ true)
-  unfolding rare often crowdedSet from allTo same insert ready ordered anyOf meet channelsTo radioChannel sendOf ones onesIn
+  unfolding rare often crowdedSet from allTo same insert ready ordered anyOf meet sendOf
   computed = (refl, refl, refl, refl)
 
   placed-are : placedAt crowdedSet (someState sent) ≡ from 10 16
@@ -159,10 +173,15 @@ module _ (sent : List ℕ) where
       ap (place 16 (clashAt crowdedSet (someState sent)) []) (order-all earlier isReady 10 16 (computed .0) (all-each goesLast 16 (computed .1)))
       ∙ place-all 16 (clashAt crowdedSet (someState sent)) 10 0 16 (all-each isFree 16 (computed .2))
 
+  send-is : (i : ℕ) → i < 16 → sendNumbers (sendOf crowdedSet (someState sent) (10 + i) (0 + i)) ≡ numbersAt i
+  unfolding crowdedSet sendOf
+  send-is i h =
+      ap₂ (λ (l : List ℕ) (c : ℕ). l ++ (c ∷ []))
+      (same-eq (firstFive (sendOf crowdedSet (someState sent) (10 + i) (0 + i))) (take 5 (numbersAt i)) (all-each isSent 16 (computed .3) i h))
+      (radio-is 1000000100 (0 + i))
+
   send-long : (i : ℕ) → i < 16 → length (lineOf sendWord (sendNumbers (sendOf crowdedSet (someState sent) (10 + i) (0 + i)))) ≡ lineLength
-  send-long i h =
-      let e = same-eq (sendNumbers (sendOf crowdedSet (someState sent) (10 + i) (0 + i))) (numbersAt i) (all-each isSent 16 (computed .3) i h) in
-      ap (λ (l : List ℕ). length (lineOf sendWord l)) e ∙ numbers-long i h
+  send-long i h = ap (λ (l : List ℕ). length (lineOf sendWord l)) (send-is i h) ∙ numbers-long i h
 
   all-lines : length (sendLines (sendsAt crowdedSet (someState sent))) ≡ linesLength
   all-lines =
