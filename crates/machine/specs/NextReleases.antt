@@ -15,13 +15,13 @@ use lib.ListN.{length, getD, set}
 use lib.Seq.{getD-set-same, getD-set-other}
 use Rattle.model.specs.declared.kinds.FlowSet.{FlowSet}
 use Rattle.model.specs.declared.kinds.State.{State}
-use Rattle.model.specs.Sets.{flowAt, used}
-use Rattle.document.specs.Machine.{countAt, hadAt, dueAt}
+use Rattle.model.specs.Sets.{used}
+use Rattle.document.specs.Machine.{countAt}
 use Rattle.machine.specs.ArrayLists.{Through, through-next, through-stay}
 use Rattle.machine.specs.LentArrays.{Numbers, Releases, releasesOf, packetsOf}
-use Rattle.machine.specs.PacketNumbers.{dueIn, due-first, hadIn, had-is, PacketsHold}
+use Rattle.machine.specs.PacketNumbers.{dueIn, due-first, hadIn, PacketsHold}
 use Rattle.machine.specs.States.{GoodState}
-use Rattle.machine.specs.SlotByColumns.{AfterNumbers, none-packet, numbers-fit}
+use Rattle.machine.specs.SlotByColumns.{AfterNumbers, numbers-fit, packets-hold}
 
 -- just before slot t the next release is t or later, and the deadline is that of the packet before it, or of the first
 abbrev pub NextRelease : ℕ → ℕ → ℕ → ℕ → ℕ → ℕ → Type 0
@@ -189,19 +189,9 @@ module _ (s : FlowSet) (st : State) (numbers : Numbers) (due next : List ℕ) (a
           apart (inr h) e = omega arith
 
   pub packets-after-releases : PacketsHold (used s) st (packetsOf (numbers .start) (after .due) (after .sent) (numbers .work)) (numbers .deadline)
-  packets-after-releases = record { starts = n .starts; dues = dues; hads = hads; works = n .works; deadlines = n .deadlines }
-    where
-      dues : (k : ℕ) → getD (after .due) k 0 ≡ dueAt (used s) st k
-      dues k = elim (decLe (s .count) k) [
-        | yes d ↦ r .dues .above k d ∙ u .none k d ∙ sym (none-packet s st g k d .0)
-        | no d ↦ one k (omega arith) .due-is ∙ rw (n .starts k, n .periods k, n .deadlines k)
-      ]
-
-      hads : (k : ℕ) → getD (after .sent) k 0 ≡ hadAt (used s) st k
-      hads k = elim (decLe (s .count) k) [
-        | yes d ↦ r .sents .above k d ∙ none-packet s st g k d .2 ∙ sym (none-packet s st g k d .1)
-        | no d ↦ one k (omega arith) .had-of ∙ rw (dues k, n .deadlines k) (had-is (flowAt (used s) k) (st .slot .0) (countAt st k))
-      ]
+  packets-after-releases =
+      packets-hold s st numbers (after .due) (after .sent) n g (λ k h. one k h .due-is) (λ k h. one k h .had-of)
+      (λ k d. (r .dues .above k d ∙ u .none k d, r .sents .above k d))
 
   pub releases-next : NextReleases s (st .slot .0 + 1) numbers (after .due) (after .next)
   releases-next = record { turn = λ k h. one k h .turn-on; none = λ k h. r .dues .above k h ∙ u .none k h }

@@ -73,25 +73,25 @@ none-packet s st g k d =
       n,
     )
 
--- the arrays that hold each flow's absolute deadline in the slot and what its packet has had
-module _ (s : FlowSet) (st : State) (numbers : Numbers) (due due′ sent′ : List ℕ) (n : AfterNumbers s numbers) (g : GoodState (used s) st)
-    (z : (k : ℕ) → s .count ≤ k → getD due k 0 ≡ 0)
-    (a : Through (dueBy (numbers .start) (numbers .period) (numbers .deadline) (st .slot .0)) (s .count) due due′)
-    (b : Through (hadBy due′ (numbers .deadline) (st .slot .0) (st .sent)) (s .count) (st .sent) sent′) where
-  packets-of : PacketsHold (used s) st (packetsOf (numbers .start) due′ sent′ (numbers .work)) (numbers .deadline)
-  packets-of = record { starts = n .starts; dues = dues; hads = hads; works = n .works; deadlines = n .deadlines }
-    where
-      dues : (k : ℕ) → getD due′ k 0 ≡ dueAt (used s) st k
-      dues k = elim (decLe (s .count) k) [
-        | yes d ↦ a .above k d ∙ z k d ∙ sym (none-packet s st g k d .0)
-        | no d ↦ a .below k (omega arith) ∙ rw (n .starts k, n .periods k, n .deadlines k)
-      ]
+-- arrays hold the packets if each flow's absolute deadline and what its packet has had are its numbers', and beyond the last flow there is none
+pub packets-hold : (s : FlowSet) (st : State) (numbers : Numbers) (due sent : List ℕ) → AfterNumbers s numbers → GoodState (used s) st
+    → ((k : ℕ) → k < s .count → getD due k 0 ≡ dueBy (numbers .start) (numbers .period) (numbers .deadline) (st .slot .0) k)
+    → ((k : ℕ) → k < s .count → getD sent k 0 ≡ hadBy due (numbers .deadline) (st .slot .0) (st .sent) k)
+    → ((k : ℕ) → s .count ≤ k → (getD due k 0 ≡ 0) × (getD sent k 0 ≡ countAt st k))
+    → PacketsHold (used s) st (packetsOf (numbers .start) due sent (numbers .work)) (numbers .deadline)
+packets-hold s st numbers due sent n g a b c = record { starts = n .starts; dues = dues; hads = hads; works = n .works; deadlines = n .deadlines }
+  where
+    dues : (k : ℕ) → getD due k 0 ≡ dueAt (used s) st k
+    dues k = elim (decLe (s .count) k) [
+      | yes d ↦ c k d .0 ∙ sym (none-packet s st g k d .0)
+      | no d ↦ a k (omega arith) ∙ rw (n .starts k, n .periods k, n .deadlines k)
+    ]
 
-      hads : (k : ℕ) → getD sent′ k 0 ≡ hadAt (used s) st k
-      hads k = elim (decLe (s .count) k) [
-        | yes d ↦ b .above k d ∙ none-packet s st g k d .2 ∙ sym (none-packet s st g k d .1)
-        | no d ↦ b .below k (omega arith) ∙ rw (dues k, n .deadlines k) (had-is (flowAt (used s) k) (st .slot .0) (countAt st k))
-      ]
+    hads : (k : ℕ) → getD sent k 0 ≡ hadAt (used s) st k
+    hads k = elim (decLe (s .count) k) [
+      | yes d ↦ c k d .1 ∙ none-packet s st g k d .2 ∙ sym (none-packet s st g k d .1)
+      | no d ↦ b k (omega arith) ∙ rw (dues k, n .deadlines k) (had-is (flowAt (used s) k) (st .slot .0) (countAt st k))
+    ]
 
 -- an answer without a fault
 abbrev pub answerOf : State → ℕ → List Send → ℕ → List Delivery → ℕ → List ℕ → Stepped
@@ -382,7 +382,7 @@ after-order s st numbers due due′ sent′ old order waiting n g h z a b l =
       good-set = n .good-set;
       good-state = g;
       before-last = h;
-      packets = packets-of s st numbers due due′ sent′ n g z a b;
+      packets = packets-hold s st numbers due′ sent′ n g (a .below) (b .below) (λ k d. (a .above k d ∙ z k d, b .above k d));
       in-order = ap (keep ready) (l .in-order) ∙ keep-all ready ready-order all ∙ ap (ordered (aheadBy due′) ready) (sym (used-count s));
       low = λ i h. omega (arith, each i h .0, accepted-count s (n .good-set));
       few = l .few;
