@@ -1,11 +1,13 @@
 -- Document 01, "What is planned, and from what": what C is answered, for every text, flow number, state and buffer. The 68 bytes of a state
 -- and what a slot leaves in both buffers stand in `Program`.
-use mathlib.Core.{Bool.{cond}, List.{List}}
-use Prim.Native.Nat.{ℕ}
-use lib.ListN.{length}
+use mathlib.Core.{Bool.{cond}, List.{List, [], _∷_, _++_}}
+use Prim.Native.Nat.{ℕ, zero, suc}
+use lib.{Dec.{ltb}, ListN.{length, drop}}
+use Rattle.model.specs.declared.kinds.FlowSet.{FlowSet}
+use Rattle.model.specs.declared.answers.{Fault.{Fault}, Refusal.the-variants.{NoRoom}}
 use Rattle.model.specs.declared.answers.{Reading.{Reading}, Verdict.{Verdict}, Bounds.{Bounds}, Written.{Written}}
-use Rattle.model.specs.declared.answers.{VerdictAnswer.{VerdictAnswer}, BoundsAnswer.{BoundsAnswer}, SlotAnswer.{SlotAnswer}}
-use Rattle.model.specs.{Refusals.{good, refusalNumber}, Sums.{bit}, Sets.{used}}
+use Rattle.model.specs.declared.answers.{VerdictAnswer.{VerdictAnswer}, BoundsAnswer.{BoundsAnswer}, SlotAnswer.{SlotAnswer}, TableAnswer.{TableAnswer}}
+use Rattle.model.specs.{Refusals.{good, refusalNumber, faultAt, noFault, orElse}, Sums.{bit}, Sets.{used}}
 use Rattle.document.specs.{Reader.{readText}, Delay.{refusedVerdict, refusedBounds, verdictOf, boundsOf}, Program.{slotLines, slotFault}}
 
 -- the numbers of an answer: the refusal by its number, a test as 1 or 0
@@ -34,6 +36,9 @@ boundsNumbers b =
 abbrev pub slotNumbers : Written → SlotAnswer
 slotNumbers w = record { refusal = refusalNumber (w .fault .refusal); line = w .fault .line; length = w .length }
 
+abbrev pub tableNumbers : Written → TableAnswer
+tableNumbers w = record { refusal = refusalNumber (w .fault .refusal); line = w .fault .line; numbers = w .length }
+
 -- a set handed over as text is read before anything else is tested, with the reader's refusals
 unfoldable pub verdictOfReading : Reading → Verdict
 verdictOfReading r = cond (good (r .fault .refusal)) (verdictOf (used (r .set))) (refusedVerdict (r .fault))
@@ -49,7 +54,34 @@ slotAnswer r state room =
       length = cond (good (slotFault r state room .refusal)) (length (slotLines (used (r .set)) state)) 0;
     }
 
--- the three calls
+-- the bounds of flows 0 .. n − 1 one after the other, four numbers a flow: C, basic, tightened, deadline
+abbrev pub boundsRow : Bounds → List ℕ
+boundsRow b = b .work ∷ b .basic ∷ b .tightened ∷ b .deadline .0 ∷ []
+
+unfoldable pub boundsRows : FlowSet → ℕ → List ℕ
+boundsRows s zero = []
+boundsRows s (suc n) = boundsRows s n ++ boundsRow (boundsOf s n)
+
+-- the rows of the set that was read: the reader's refusals, then 10 for a table that is too short for all of them
+abbrev pub rowsRead : Reading → List ℕ
+rowsRead r = boundsRows (used (r .set)) (used (r .set) .count)
+
+unfoldable pub tableFault : Reading → ℕ → Fault
+tableFault r room = orElse (r .fault) (cond (ltb room (length (rowsRead r))) (faultAt NoRoom 0) noFault)
+
+-- the fault, and how many numbers of the table are the rows
+unfoldable pub tableAnswer : Reading → ℕ → Written
+tableAnswer r room =
+    record {
+      fault = tableFault r room;
+      length = cond (good (tableFault r room .refusal)) (length (rowsRead r)) 0;
+    }
+
+-- on success the rows stand at the table's start, and its further numbers stay; on a refusal all stay
+unfoldable pub tableAfter : Reading → List ℕ → List ℕ
+tableAfter r table = cond (good (tableFault r (length table) .refusal)) (rowsRead r ++ drop (length (rowsRead r)) table) table
+
+-- the four calls
 unfoldable pub verdictForC : List ℕ → VerdictAnswer
 verdictForC text = verdictNumbers (verdictOfReading (readText text))
 
@@ -58,3 +90,6 @@ boundsForC text flow = boundsNumbers (boundsOfReading (readText text) flow)
 
 unfoldable pub slotForC : List ℕ → List ℕ → ℕ → SlotAnswer
 slotForC text state room = slotNumbers (slotAnswer (readText text) state room)
+
+unfoldable pub allBoundsForC : List ℕ → ℕ → TableAnswer
+allBoundsForC text room = tableNumbers (tableAnswer (readText text) room)

@@ -188,6 +188,14 @@ pub struct SlotAnswer {
     pub length: usize,
 }
 
+// How many 32-bit numbers of a lent table are the bounds of all flows.
+#[repr(C)]
+pub struct TableAnswer {
+    pub refusal: u32,
+    pub line: u32,
+    pub numbers: usize,
+}
+
 // A test as a number, 1 where it passes.
 pub fn bit(test: bool) -> u32
     ensures { λ r. ⌜ (r ≡ bit test) × (r ≤ 1) ⌝ }

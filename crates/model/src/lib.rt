@@ -14,6 +14,7 @@ pub use answers::Refusal;
 pub use answers::Send;
 pub use answers::SlotAnswer;
 pub use answers::Stepped;
+pub use answers::TableAnswer;
 pub use answers::Verdict;
 pub use answers::VerdictAnswer;
 pub use answers::Written;

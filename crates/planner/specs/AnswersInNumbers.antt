@@ -10,7 +10,8 @@ use Rattle.model.specs.Sums.{bit}
 use Rattle.model.specs.declared.answers.VerdictAnswer.{VerdictAnswer}
 use Rattle.model.specs.declared.answers.BoundsAnswer.{BoundsAnswer}
 use Rattle.model.specs.declared.answers.SlotAnswer.{SlotAnswer}
-use Rattle.document.specs.ForC.{boundsNumbers, slotNumbers, verdictNumbers}
+use Rattle.model.specs.declared.answers.TableAnswer.{TableAnswer}
+use Rattle.document.specs.ForC.{boundsNumbers, slotNumbers, tableNumbers, verdictNumbers}
 
 abbrev verdictWith : Verdict → ℕ → ℕ → ℕ → VerdictAnswer
 verdictWith v n b t = record { refusal = n; line = v .fault .line; basic = b; tightened = t; rounds = v .rounds }
@@ -39,3 +40,9 @@ slotWith w n = record { refusal = n; line = w .fault .line; length = w .length }
 
 pub slot-numbers : (w : Written) (n : ℕ) → n ≡ refusalNumber (w .fault .refusal) → slotWith w n ≡ slotNumbers w
 slot-numbers w n e = rw e
+
+abbrev tableWith : Written → ℕ → TableAnswer
+tableWith w n = record { refusal = n; line = w .fault .line; numbers = w .length }
+
+pub table-numbers : (w : Written) (n : ℕ) → n ≡ refusalNumber (w .fault .refusal) → tableWith w n ≡ tableNumbers w
+table-numbers w n e = rw e

@@ -7,3 +7,4 @@ pub mod AnswersInNumbers
 pub mod FlowBeyondLast
 pub mod AfterStep
 pub mod SlotIsStep
+pub mod TableRows

@@ -4,13 +4,14 @@ ghost use mathlib.Core.Bool.{cond};
 ghost use lib.Dec.{ltb};
 ghost use Rattle.document.specs.Delay.{refusedBounds, refusedVerdict};
 ghost use Rattle.document.specs.Reader.{refusedWriting};
-ghost use Rattle.document.specs.ForC.{boundsNumbers, boundsOfReading, slotNumbers, verdictNumbers, verdictOfReading};
+ghost use Rattle.document.specs.ForC.{boundsNumbers, boundsOfReading, slotNumbers, tableNumbers, verdictNumbers, verdictOfReading};
 use model::Bounds;
 use model::BoundsAnswer;
 use model::Fault;
 use model::Reading;
 use model::SlotAnswer;
 use model::Span;
+use model::TableAnswer;
 use model::Verdict;
 use model::VerdictAnswer;
 use model::Written;
@@ -126,5 +127,18 @@ pub fn slot_numbers(w: Written) -> SlotAnswer
         refusal: refusal.code() as u32,
         line: fault.line,
         length: w.length,
+    }
+}
+
+// How many numbers were written as C is answered: the refusal by document 01's number.
+pub fn table_numbers(w: Written) -> TableAnswer
+    ensures { λ r. ⌜ r ≡ tableNumbers w ⌝ }
+{
+    let fault = w.fault;
+    let refusal = fault.refusal;
+    TableAnswer {
+        refusal: refusal.code() as u32,
+        line: fault.line,
+        numbers: w.length,
     }
 }

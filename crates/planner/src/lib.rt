@@ -1,19 +1,21 @@
-// What C calls: the verdict, one flow's bounds and one slot, over a set's text.
+// What C calls: the verdict, one flow's bounds, those of all flows, and one slot, over a set's text.
 ghost use mathlib.Core.Path.{_≡_};
 ghost use lib.ListN.{length};
 ghost use Rattle.document.specs.Reader.{readText};
 ghost use Rattle.document.specs.Program.{slotBuffer, slotState};
-ghost use Rattle.document.specs.ForC.{boundsForC, slotForC, verdictForC};
+ghost use Rattle.document.specs.ForC.{allBoundsForC, boundsForC, slotForC, tableAfter, verdictForC};
 
 mod answers;
 mod slots;
 mod state_bytes;
+mod tables;
 
 pub use answers::bounds_numbers;
 pub use answers::slot_numbers;
 pub use answers::verdict_numbers;
 use model::BoundsAnswer;
 use model::SlotAnswer;
+use model::TableAnswer;
 use model::VerdictAnswer;
 
 // Both verdicts of the set in `text`; a text that is refused has the reader's refusal and line, and zeros.
@@ -34,6 +36,18 @@ pub extern "C" fn rembasuk_bounds(text: &[u8], flow: u32) -> BoundsAnswer
     let reading = text::read(text);
     let bounds = answers::bounds_of_reading(reading, flow);
     bounds_numbers(bounds)
+}
+
+// The bounds of all flows of the set in `text`, the rounds made once: C, basic, tightened and deadline of each flow at the start of `table`.
+// The text's refusals, then 10; a refusal changes nothing.
+#[no_mangle]
+pub extern "C" fn rembasuk_all_bounds(text: &[u8], table: &mut [u32]) -> TableAnswer
+    ensures { λ r. ⌜ r ≡ allBoundsForC (now (text .entry)) (length (now (table .entry))) ⌝ }
+    ensures { λ r. ⌜ now (table .exit) ≡ tableAfter (readText (now (text .entry))) (now (table .entry)) ⌝ }
+{
+    let reading = text::read(text);
+    let written = tables::table_of_reading(reading, table);
+    answers::table_numbers(written)
 }
 
 // One slot of the set in `text`: the next state over the 68 bytes, the slot's `send` lines at the start of `lines`.
