@@ -154,6 +154,19 @@ rembasuk_bounds_answer rembasuk_bounds(const uint8_t *text, size_t text_length, 
 rembasuk_slot_answer rembasuk_slot(const uint8_t *text, size_t text_length, uint8_t *state, size_t state_length, uint8_t *lines,
                                    size_t lines_length);
 
+/* What the bounds of all flows wrote. */
+typedef struct {
+    uint32_t refusal;   /* 0, 1 to 9, or 10 */
+    uint32_t line;      /* the line that is refused, or 0 */
+    size_t numbers;     /* how many 32-bit numbers of the table are the flows' bounds, four a flow; 0 if refused */
+} rembasuk_table_answer;
+
+/* The bounds of all flows at once: C, basic bound, tightened bound and deadline of flow 0, then of flow 1, and so on, at the start of
+ * `table`, whose further numbers stay as they were. `room` counts 32-bit numbers, as `numbers` does: four for each flow are needed, 256 are
+ * always enough. The tightened test's rounds are made once, where a call of rembasuk_bounds for each flow makes them again.
+ * On any refusal the table does not change. Refusals: 1 to 9, then 10. Wants as much stack as rembasuk_verdict. */
+rembasuk_table_answer rembasuk_all_bounds(const uint8_t *text, size_t text_length, uint32_t *table, size_t room);
+
 #ifdef __cplusplus
 }
 #endif

@@ -22,6 +22,8 @@ int LLVMFuzzerTestOneInput(const uint8_t *data, size_t size)
     rembasuk_verdict_answer v;
     rembasuk_bounds_answer b;
     rembasuk_slot_answer s;
+    rembasuk_table_answer a;
+    uint32_t table[256], as_before[256];
     memcpy(state, data, head);
     memcpy(before, state, sizeof state);
     memset(lines, 0xA5, sizeof lines);
@@ -38,5 +40,11 @@ int LLVMFuzzerTestOneInput(const uint8_t *data, size_t size)
         must(s.length == 0 && memcmp(state, before, sizeof state) == 0);
     }
     must(v.refusal == 0 || s.refusal == v.refusal);
+    memset(table, 0xA5, sizeof table);
+    memcpy(as_before, table, sizeof table);
+    room = head > 2 ? data[2] : 256;
+    a = rembasuk_all_bounds(text, text_length, table, room);
+    must(a.numbers <= room && memcmp(table + a.numbers, as_before + a.numbers, sizeof table - 4 * a.numbers) == 0);
+    must(v.refusal == 0 ? a.refusal == 0 || a.refusal == 10 : a.refusal == v.refusal && a.line == v.line);
     return 0;
 }

@@ -72,7 +72,7 @@ static int untouched(area a, const uint8_t *lent, size_t length)
     return 1;
 }
 
-static area text_area, state_area, lines_area;
+static area text_area, state_area, lines_area, table_area;
 
 /* ---- calls with every buffer at an edge */
 
@@ -345,11 +345,81 @@ static void limits(int at_end)
     CHECK(atoi(out + 15) == REMBASUK_FIRST_CHANNEL + REMBASUK_MOST_CHANNELS - 1);
 }
 
+/* ---- the bounds of all flows */
+
+/* All bounds into a table of `room` numbers; checks that only the numbers answered change, and none on a refusal. */
+static rembasuk_table_answer table_of(const char *text, size_t length, uint32_t *out, size_t room, int at_end)
+{
+    uint8_t *t = lend(text_area, length, at_end);
+    uint8_t *lent = lend(table_area, 4 * room, at_end);
+    rembasuk_table_answer a;
+    memcpy(t, text, length);
+    a = rembasuk_all_bounds(t, length, (uint32_t *)(void *)lent, room);
+    CHECK(memcmp(t, text, length) == 0 && untouched(text_area, t, length));
+    CHECK(a.numbers <= room && (a.refusal == 0 || a.numbers == 0));
+    CHECK(untouched(table_area, lent, 4 * a.numbers));
+    memcpy(out, lent, 4 * a.numbers);
+    return a;
+}
+
+/* The table has what rembasuk_bounds says of each flow. */
+static void same_bounds(const char *text, uint32_t flows, int at_end)
+{
+    uint32_t table[260], k;
+    rembasuk_table_answer a = table_of(text, strlen(text), table, 4 * flows + 3, at_end);
+    CHECK(a.refusal == 0 && a.line == 0 && a.numbers == 4 * flows);
+    for (k = 0; k < flows; k++) {
+        rembasuk_bounds_answer b = bounds_of(text, strlen(text), k, at_end);
+        CHECK(b.refusal == 0 && table[4 * k] == b.work && table[4 * k + 1] == b.basic);
+        CHECK(table[4 * k + 2] == b.tightened && table[4 * k + 3] == b.deadline);
+    }
+}
+
+static void all_bounds(int at_end)
+{
+    static const uint32_t p1[8] = {2, 4, 2, 8, 2, 6, 6, 20};
+    static char many[8192];
+    uint32_t table[8];
+    rembasuk_table_answer a = table_of(P1, strlen(P1), table, 8, at_end);
+    size_t i;
+    CHECK(a.refusal == 0 && a.line == 0 && a.numbers == 8 && memcmp(table, p1, sizeof p1) == 0);
+    /* one short, none, and a refused text before too short a table */
+    a = table_of(P1, strlen(P1), table, 7, at_end);
+    CHECK(a.refusal == 10 && a.line == 0);
+    a = table_of(P1, strlen(P1), table, 0, at_end);
+    CHECK(a.refusal == 10 && a.line == 0);
+    a = table_of(P9, strlen(P9), table, 8, at_end);
+    CHECK(a.refusal == 9 && a.line == 2);
+    a = table_of(P9, strlen(P9), table, 0, at_end);
+    CHECK(a.refusal == 9 && a.line == 2);
+    /* no flows need no room */
+    a = table_of("set\t1\n", 6, table, 0, at_end);
+    CHECK(a.refusal == 0 && a.line == 0 && a.numbers == 0);
+    a = table_of("set\t1\n", 6, table, 8, at_end);
+    CHECK(a.refusal == 0 && a.line == 0 && a.numbers == 0);
+    for (i = 0; i < sizeof points / sizeof points[0]; i++) {
+        uint32_t flows = 0;
+        const char *p = points[i].text;
+        while ((p = strstr(p, "flow")) != NULL) {
+            flows++;
+            p++;
+        }
+        same_bounds(points[i].text, flows, at_end);
+    }
+    strcpy(many, "set\t7\n");
+    for (i = 0; i < 64; i++) {
+        sprintf(many + strlen(many), "flow\t%d\t%d\t%d\t%d\t%d\t%d\t%d\n", (int)(300 + 7 * i), (int)(200 + 5 * i), (int)i, (int)(1 + i % 4),
+                (int)(1 + i), (int)(3 + i), (int)(100 + i));
+    }
+    same_bounds(many, 64, at_end);
+}
+
 static void empty_buffers(void)
 {
     uint8_t state[REMBASUK_STATE_LENGTH] = {0};
     rembasuk_verdict_answer v = rembasuk_verdict(NULL, 0);
     rembasuk_slot_answer s;
+    rembasuk_table_answer a;
     CHECK(v.refusal == 1 && v.line == 1);
     s = rembasuk_slot((const uint8_t *)"set\t1\n", 6, state, sizeof state, NULL, 0);
     CHECK(s.refusal == 0 && s.length == 0 && state[0] == 1);
@@ -357,6 +427,8 @@ static void empty_buffers(void)
     CHECK(s.refusal == 12);
     v = rembasuk_verdict((const uint8_t *)"set\t1\n", 6);
     CHECK(v.refusal == 0 && v.basic == 1 && v.tightened == 1 && v.rounds == 1);
+    a = rembasuk_all_bounds((const uint8_t *)"set\t1\n", 6, NULL, 0);
+    CHECK(a.refusal == 0 && a.numbers == 0);
 }
 
 int main(void)
@@ -366,6 +438,7 @@ int main(void)
     text_area = area_new(5);
     state_area = area_new(1);
     lines_area = area_new(1);
+    table_area = area_new(1);
     for (at_end = 0; at_end < 2; at_end++) {
         for (i = 0; i < sizeof points / sizeof points[0]; i++) {
             run_point(&points[i], at_end);
@@ -376,6 +449,7 @@ int main(void)
         limits(at_end);
         longest_lines(1000000000u, at_end);
         longest_lines(3999999998u, at_end);
+        all_bounds(at_end);
     }
     empty_buffers();
     printf("host: %d checks, %d failed\n", checks, failures);

@@ -12,6 +12,7 @@
 #define FILL 0xA5
 
 static uint8_t text[16384], state[REMBASUK_STATE_LENGTH], lines[4096];
+static uint32_t table[256];
 static size_t length;
 
 static void *verdict(void *unused) {
@@ -23,6 +24,12 @@ static void *verdict(void *unused) {
 static void *bounds(void *unused) {
     (void)unused;
     (void)rembasuk_bounds(text, length, 0);
+    return NULL;
+}
+
+static void *all_bounds(void *unused) {
+    (void)unused;
+    (void)rembasuk_all_bounds(text, length, table, 256);
     return NULL;
 }
 
@@ -64,5 +71,5 @@ static int check(const char *name, void *(*call)(void *), size_t most) {
 int main(void) {
     make_text();
     return check("rembasuk_verdict", verdict, REMBASUK_VERDICT_STACK) + check("rembasuk_bounds", bounds, REMBASUK_VERDICT_STACK)
-         + check("rembasuk_slot", slot, REMBASUK_SLOT_STACK);
+         + check("rembasuk_all_bounds", all_bounds, REMBASUK_VERDICT_STACK) + check("rembasuk_slot", slot, REMBASUK_SLOT_STACK);
 }
