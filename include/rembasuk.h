@@ -69,8 +69,11 @@ extern "C" {
 /* The `send` lines of one slot have at most this many bytes: 16 lines of 36. A buffer of this length is never refused as too short. */
 #define REMBASUK_LINES_LENGTH 576
 
-/* How many bytes of stack a call may use: the verdict and the bounds, and the slot. */
-#define REMBASUK_VERDICT_STACK 262144
+/* The table of all flows' bounds has at most this many 32-bit numbers: 64 flows of 4. */
+#define REMBASUK_TABLE_LENGTH 256
+
+/* How many bytes of stack a call may use: the verdict, the bounds of one flow and of all; and the slot. */
+#define REMBASUK_VERDICT_STACK 65536
 #define REMBASUK_SLOT_STACK 32768
 
 /* The refusals by number, as the answers have them. 1 to 9 name the text's line, counted from 1; the others line 0. */
@@ -162,9 +165,9 @@ typedef struct {
 } rembasuk_table_answer;
 
 /* The bounds of all flows at once: C, basic bound, tightened bound and deadline of flow 0, then of flow 1, and so on, at the start of
- * `table`, whose further numbers stay as they were. `room` counts 32-bit numbers, as `numbers` does: four for each flow are needed, 256 are
- * always enough. The tightened test's rounds are made once, where a call of rembasuk_bounds for each flow makes them again.
- * On any refusal the table does not change. Refusals: 1 to 9, then 10. Wants as much stack as rembasuk_verdict. */
+ * `table`, whose further numbers stay as they were. `room` counts 32-bit numbers, as `numbers` does: four for each flow are needed, REMBASUK_TABLE_LENGTH
+ * are always enough. The tightened test's rounds are made once, where a call of rembasuk_bounds for each flow makes them again.
+ * On any refusal the table does not change. Refusals: 1 to 9, then 10. */
 rembasuk_table_answer rembasuk_all_bounds(const uint8_t *text, size_t text_length, uint32_t *table, size_t room);
 
 #ifdef __cplusplus

@@ -126,7 +126,6 @@ extern "C" {
     // include/rembasuk.h: its answers begin with the refusal and the line, as a fault does.
     fn rembasuk_verdict(text: *const u8, length: usize) -> Verdict;
     fn rembasuk_bounds(text: *const u8, length: usize, flow: u32) -> Bounds;
-    #[cfg(all_bounds)]
     fn rembasuk_all_bounds(text: *const u8, length: usize, table: *mut u32, room: usize) -> Written;
     fn rembasuk_slot(text: *const u8, length: usize, state: *mut u8, state_length: usize, lines: *mut u8, lines_length: usize) -> Written;
 }
@@ -253,7 +252,6 @@ pub fn text_bounds(text: &[u8], flow: u32) -> Bounds {
 }
 
 /// What C is told of a text: C, basic bound, tightened bound and deadline of every flow, in a table of 32-bit numbers.
-#[cfg(all_bounds)]
 pub fn text_all_bounds(text: &[u8], table: &mut [u32]) -> Written {
     unsafe { rembasuk_all_bounds(text.as_ptr(), text.len(), table.as_mut_ptr(), table.len()) }
 }

@@ -251,7 +251,6 @@ fn bounds<'a>(rows: &mut Vec<Row<'a>>, inputs: &'a Inputs) {
         let (_, numbers) = all_bounds_of_text(black_box(text), &mut table);
         table[..numbers].chunks_exact(4).map(|row| u64::from(row[2])).sum()
     };
-    #[cfg(all_bounds)]
     rows.push(Row::new(
         "all bounds in one call: 64 flows of 17 nodes",
         move || {
@@ -262,9 +261,6 @@ fn bounds<'a>(rows: &mut Vec<Row<'a>>, inputs: &'a Inputs) {
         once,
     ));
     let each = move || (0..count).map(|k| u64::from(compare::text_bounds(black_box(text), k).tightened)).sum();
-    #[cfg(not(all_bounds))]
-    rows.push(Row::new("all bounds: 64 flows of 17 nodes; not like with like: 64 calls beside one", each, once));
-    #[cfg(all_bounds)]
     rows.push(Row::new("the same by 64 calls; not like with like: the second planner by one", each, once));
 }
 

@@ -38,7 +38,6 @@ pub fn over_text(tally: &mut Tally, rng: &mut Rng, bytes: &[u8]) {
         count(tally, other.refusal);
         hold_bounds(tally, &text.set, compare::text_bounds(bytes, flow), other);
     }
-    #[cfg(all_bounds)]
     all_bounds(tally, rng, &text);
     let state = records::state_bytes(rng, &text.set);
     one_slot(tally, rng, &text, &state);
@@ -46,7 +45,6 @@ pub fn over_text(tally: &mut Tally, rng: &mut Rng, bytes: &[u8]) {
 }
 
 /// The table of all bounds: exact, one number short, longer, or none.
-#[cfg(all_bounds)]
 fn all_bounds(tally: &mut Tally, rng: &mut Rng, text: &Text) {
     let before = vec![u32::from(BEFORE); room(rng, 4 * usize::from(text.set.count))];
     let (mut ours, mut theirs) = (before.clone(), before);
