@@ -2,6 +2,7 @@
 ghost use mathlib.Core.Path.{_≡_};
 use crate::two::TwoBoundsAnswer;
 use crate::two::TwoSlotAnswer;
+use crate::two::TwoTableAnswer;
 use crate::two::TwoVerdictAnswer;
 use model::Bounds;
 use model::Verdict;
@@ -21,6 +22,14 @@ pub fn rembasuk_bounds(text: &[u8], flow: u32) -> TwoBoundsAnswer
     let a = planner::rembasuk_bounds(text, flow);
     let b = planner::rembasuk_bounds(text, flow);
     TwoBoundsAnswer(a, b)
+}
+
+pub fn rembasuk_all_bounds(text: &[u8], x: &mut [u32], y: &mut [u32]) -> TwoTableAnswer
+    ensures { λ r. ⌜ ((now (x .entry) ≡ now (y .entry)) → ((r .0 ≡ r .1) × (now (x .exit) ≡ now (y .exit)))) ⌝ }
+{
+    let a = planner::rembasuk_all_bounds(text, x);
+    let b = planner::rembasuk_all_bounds(text, y);
+    TwoTableAnswer(a, b)
 }
 
 pub fn rembasuk_slot(

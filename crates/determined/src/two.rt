@@ -15,6 +15,7 @@ use model::SlotAnswer;
 use model::Span;
 use model::State;
 use model::Stepped;
+use model::TableAnswer;
 use model::Verdict;
 use model::VerdictAnswer;
 use model::Written;
@@ -68,6 +69,8 @@ pub struct TwoVerdictAnswer(pub VerdictAnswer, pub VerdictAnswer);
 pub struct TwoBoundsAnswer(pub BoundsAnswer, pub BoundsAnswer);
 
 pub struct TwoSlotAnswer(pub SlotAnswer, pub SlotAnswer);
+
+pub struct TwoTableAnswer(pub TableAnswer, pub TableAnswer);
 
 pub struct TwoProbeStepped(pub ProbeStepped, pub ProbeStepped);
 
