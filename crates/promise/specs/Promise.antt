@@ -1,5 +1,5 @@
 -- Demand 3: what a test of schedulability promises of a slot machine, for any test and any machine, and document 01's two tests. It is said of
--- what the steps of the machine's run from the fresh state report.
+-- what the steps of the machine's run from the fresh state report. The second half says the same of the bytes that a C host gets.
 use mathlib.Core.{Bool.{Bool, true}, List.{List, map}, Logic.{_≢_, _⊎_}, Path.{_≡_}}
 use Prim.Native.Nat.{ℕ, zero, suc, _+_, _*_, _/_, _%_, _^_, _≤_, _<_}
 use lib.ListN.{length, getD, take, drop, replicate}
