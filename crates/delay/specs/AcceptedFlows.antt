@@ -1,16 +1,13 @@
 -- What the record check says of a set and of its flows.
-use mathlib.Core.Path.{_≡_, refl, sym, ap, _∙_}
+use mathlib.Core.Path.{_≡_, sym, ap, _∙_}
 use mathlib.Core.Bool.{Bool, true, false, not}
 use Prim.Native.Nat.{ℕ, _≤_, _<_}
-use native.Mathlib.Nat.{mul-le-mul}
-use native.Mathlib.Omega.{arith}
 use borrow.Author.Tests.{not-true, not-false}
-use Rattle.model.specs.declared.kinds.Flow.{Flow}
 use Rattle.model.specs.declared.kinds.FlowSet.{FlowSet}
 use Rattle.model.specs.declared.answers.Fault.{Fault}
-use Rattle.model.specs.Limits.{mostFlows, mostLinks}
+use Rattle.model.specs.Limits.{mostFlows}
 use Rattle.model.specs.Refusals.{good}
-use Rattle.model.specs.Sets.{flowAt, exact, used, links, work}
+use Rattle.model.specs.Sets.{flowAt, exact, used}
 use Rattle.laws.specs.Accepted.{Accepted, GoodFlow}
 use Rattle.laws.specs.Used.{used-flow, used-count}
 

@@ -1,12 +1,11 @@
 -- Routes, links and tries of the flows in arrays of their own, and S of two flows by these arrays.
 use mathlib.Core.Path.{_≡_, refl, sym, ap, ap₂, _∙_}
 use mathlib.Core.List.{List, []}
-use Prim.Native.Nat.{ℕ, _+_, _-_, _*_, _≤_, _<_}
+use Prim.Native.Nat.{ℕ, _+_, _*_, _≤_, _<_}
 use native.Mathlib.Decide.{decLe}
 use native.Mathlib.Omega.{arith}
 use lib.ListN.{length, getD, take, set, replicate, length-set, length-replicate}
 use lib.Seq.{getD-set-same, getD-set-other}
-use Rattle.model.specs.declared.kinds.Flow.{Flow}
 use Rattle.model.specs.declared.kinds.FlowSet.{FlowSet}
 use Rattle.model.specs.Limits.{mostFlows, mostNodes, mostLinks}
 use Rattle.model.specs.Sets.{flowAt, used, links}
@@ -14,7 +13,7 @@ use Rattle.document.specs.Delay.{conflictWork}
 use Rattle.laws.specs.Accepted.{Accepted}
 use Rattle.laws.specs.Used.{used-flow}
 use Rattle.delay.specs.AcceptedFlows.{good-at}
-use Rattle.delay.specs.PairGrids.{FilledTo, RowsTo, conflictOf, filled-start, filled-next}
+use Rattle.delay.specs.PairGrids.{FilledTo, conflictOf, filled-start, filled-next}
 use Rattle.delay.specs.RoutePlaces.{endsOn, work-ends}
 
 -- the routes of the first k flows

@@ -3,16 +3,15 @@
 use mathlib.Core.Path.{_≡_, refl, sym, ap, _∙_}
 use mathlib.Core.Bool.{Bool, true, false, _||_}
 use mathlib.Core.List.{List, [], _∷_}
-use Prim.Native.Nat.{ℕ, _+_, _-_, _%_, _/_, _<_, zero, suc, _*_, _≤_}
-use lib.ListN.{length, getD, take, drop, set, length-set, replicate, length-replicate}
-use Rattle.model.specs.Limits.{mostNodes}
+use Prim.Native.Nat.{ℕ, _+_, _%_, _/_, _<_, zero, suc, _*_, _≤_}
+use lib.ListN.{length, getD, take, drop, set, length-set}
 use Rattle.model.specs.Sums.{bit, sumTo, anyTo}
 use Rattle.model.specs.Sets.{memb, anyOf, meet, exact, links}
 use native.Mathlib.Nat.{add-zero}
 use native.Mathlib.Numerals.{add-one}
 use native.Mathlib.Omega.{arith}
 use borrow.Author.Tests.{ne-eqb}
-use native.Mathlib.Decide.{decLe, ℕ-discrete}
+use native.Mathlib.Decide.{ℕ-discrete}
 use lib.Seq.{drop-cons, getD-take, length-take-le, getD-set-same, getD-set-other}
 use Rattle.model.specs.declared.kinds.Flow.{Flow}
 use Rattle.document.specs.Delay.{touches, conflictWork}

@@ -1,8 +1,7 @@
 // The two delay tests of document 01: both bounds of every flow, the verdicts of a set, and one flow's bounds. The shares of each pair of
 // flows, as far as no round changes them, are tables that are made once.
-ghost use Prim.Native.Nat.{_<_, _≤_, ℕ};
-ghost use lib.ListN.{getD, replicate};
-ghost use Rattle.delay.specs.ShareRows.{SharesTo, SmallWork};
+ghost use Prim.Native.Nat.{_<_, _≤_};
+ghost use lib.ListN.{replicate};
 ghost use Rattle.delay.specs.DelayTables.{DeadlinesOf, TablesHold, blankTables, tablesOf};
 ghost use Rattle.delay.specs.BoundsReached.{BothBoundsOf};
 ghost use Rattle.delay.specs.AllBounds.{AllBoundsOf};

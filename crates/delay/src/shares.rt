@@ -4,7 +4,7 @@ ghost use Prim.Native.Nat.{_%_, _*_, _-_, _/_, _<_, _≤_, min, ℕ};
 ghost use Rattle.model.specs.Sets.{used};
 ghost use Rattle.laws.specs.Accepted.{Accepted};
 ghost use Rattle.delay.specs.ShareRows.{Positive, SharesTo, SmallWorks, remaindersBy, Divided, FlowNumbersTo, ZeroFrom, SmallWork, packetSum};
-ghost use Rattle.delay.specs.PairGrids.{RowDone, ofOther, pairAt};
+ghost use Rattle.delay.specs.PairGrids.{RowDone, pairAt};
 ghost use mathlib.Core.Path.{_≡_};
 ghost use mathlib.Core.Bool.{cond};
 ghost use lib.Dec.{eqb};

@@ -205,7 +205,8 @@ pub rounds-end : (s : FlowSet) → WorkFits s → (fuel n : ℕ) (v : List ℕ) 
 rounds-end s f zero n v b h = absurd (omega arith)
 rounds-end s f (suc fuel) n v b h = go (λ l. rounds-end s f fuel (n + 1) (roundOf s v) (between-round s v (s .count) b) l) (same (roundOf s v) v) refl
   where
-    go : (room s (roundOf s v) < fuel → (k : ℕ) × (roundsIn s fuel (n + 1) (roundOf s v) .rounds ≡ n + 1 + k) × Ends s (roundOf s v) k (roundsIn s fuel (n + 1) (roundOf s v) .list))
+    go : (room s (roundOf s v) < fuel → (k : ℕ) × (roundsIn s fuel (n + 1) (roundOf s v) .rounds ≡ n + 1 + k)
+        × Ends s (roundOf s v) k (roundsIn s fuel (n + 1) (roundOf s v) .list))
         → (c : Bool) → same (roundOf s v) v ≡ c
         → (k : ℕ) × (roundsIn s (suc fuel) n v .rounds ≡ n + k) × Ends s v k (roundsIn s (suc fuel) n v .list)
     go ih true e = (1, ap (λ (r : Reached). r .rounds) (rounds-stop s fuel n v e), rw (rounds-stop s fuel n v e) (idle e))
@@ -220,7 +221,8 @@ rounds-end s f (suc fuel) n v b h = go (λ l. rounds-end s f fuel (n + 1) (round
 pub rounds-fuel : (s : FlowSet) → WorkFits s → (f g n : ℕ) (v : List ℕ) → Between s v → room s v < f → room s v < g → roundsIn s f n v ≡ roundsIn s g n v
 rounds-fuel s w zero g n v b h i = absurd (omega arith)
 rounds-fuel s w (suc f) zero n v b h i = absurd (omega arith)
-rounds-fuel s w (suc f) (suc g) n v b h i = go (λ p q. rounds-fuel s w f g (n + 1) (roundOf s v) (between-round s v (s .count) b) p q) (same (roundOf s v) v) refl
+rounds-fuel s w (suc f) (suc g) n v b h i =
+    go (λ p q. rounds-fuel s w f g (n + 1) (roundOf s v) (between-round s v (s .count) b) p q) (same (roundOf s v) v) refl
   where
     go : (room s (roundOf s v) < f → room s (roundOf s v) < g → roundsIn s f (n + 1) (roundOf s v) ≡ roundsIn s g (n + 1) (roundOf s v))
         → (c : Bool) → same (roundOf s v) v ≡ c → roundsIn s (suc f) n v ≡ roundsIn s (suc g) n v

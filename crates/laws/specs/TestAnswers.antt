@@ -106,7 +106,9 @@ sum-le-most : (s : FlowSet) → Accepted s → (k : ℕ) → deadline s k ≤ 65
 unfolding overOthers
 sum-le-most s a k d y =
     let n = a .count-le in
-    let t = sum-le (λ l. cond (eqb l k) 0 (wholeShare s y k l)) (λ l. 4194304) (s .count) (λ l i. pick (eqb l k) (wholeShare s y k l) (share-le-most s a k l i d y)) in
+    let each : (l : ℕ) → l < s .count → cond (eqb l k) 0 (wholeShare s y k l) ≤ 4194304 =
+    λ l i. pick (eqb l k) (wholeShare s y k l) (share-le-most s a k l i d y) in
+    let t = sum-le (λ l. cond (eqb l k) 0 (wholeShare s y k l)) (λ l. 4194304) (s .count) each in
     omega (arith, sum-const 4194304 (s .count))
   where
     pick : (b : Bool) (x : ℕ) → x ≤ 4194304 → cond b 0 x ≤ 4194304

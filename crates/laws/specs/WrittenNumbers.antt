@@ -78,7 +78,7 @@ unfolding decimal
 decimal-length j n h = length-in 10 j n h
 
 -- a digit parts neither fields nor lines
-digit-inside : (b : ℕ) → isDigit b ≡ true → (eqb b 10 ≡ false) × (eqb b 9 ≡ false)
+pub digit-inside : (b : ℕ) → isDigit b ≡ true → (eqb b 10 ≡ false) × (eqb b 9 ≡ false)
 digit-inside b h =
     let lo = leb-true 48 b (and-l (leb 48 b) (ltb b 58) h) in (ne-eqb b 10 (λ e. omega arith), ne-eqb b 9 (λ e. omega arith))
 

@@ -1,6 +1,5 @@
 -- What the answer of a read means.
 use mathlib.Core.Bool.{Bool, false, cond}
-use mathlib.Core.Path.{_≡_}
 use Prim.Native.Nat.{ℕ, zero, suc, _≤_, _<_}
 use lib.Dec.{eqb}
 use lib.IntN.{ℤ, pos, negsuc}

@@ -11,7 +11,7 @@ use lib.Dec.{ltb, eqb}
 use lib.ListN.{length, getD, take, drop, replicate}
 use lib.Seq.{take-at, drop-at}
 use borrow.Author.Tests.{lt-ltb, le-ltb, eq-eqb}
-use Rattle.model.specs.declared.kinds.{FlowSet.{FlowSet}, State.{State}}
+use Rattle.model.specs.declared.kinds.{State.{State}}
 use Rattle.model.specs.declared.answers.{Send.{Send}, SlotAnswer.{SlotAnswer}, Stepped.{Stepped}, VerdictAnswer.{VerdictAnswer}, BoundsAnswer.{BoundsAnswer}}
 use Rattle.model.specs.Limits.{mostChannels, mostFlows, lastSlot}
 use Rattle.model.specs.Refusals.{good, refusalNumber, faultAt, noFault}

@@ -7,75 +7,47 @@ use native.Mathlib.Decide.{decLe}
 use native.Mathlib.Omega.{arith}
 use lib.Dec.{leb, ltb, eqb}
 use lib.ListN.{length}
-use borrow.Author.Tests.{ne-eqb, le-leb, lt-ltb, leb-true, ltb-true, eqb-false, not-true}
+use borrow.Author.Tests.{ne-eqb, leb-true, ltb-true, eqb-false, not-true}
 use Rattle.document.specs.Text.{isDigit, allDigits, plain, valueFrom, valueOf, isNumber, decimalIn, decimal}
 use Rattle.laws.specs.SumLaws.{and-l, and-r}
+use Rattle.laws.specs.WrittenNumbers.{tens, decimal-digits, decimal-value, decimal-length}
 use Rattle.text.specs.DigitsRead.{value-grows, good-number}
-use Rattle.text.specs.Decimals.{tenDigits, top, room-more, decimal-one, decimal-more, decimal-size}
-
--- one digit more at the end
-value-next : (f : List ℕ) (v b : ℕ) → valueFrom v (f ++ (b ∷ [])) ≡ valueFrom v f * 10 + (b - 48)
-unfolding valueFrom
-value-next [] v b = refl
-value-next (c ∷ f) v b = value-next f (v * 10 + (c - 48)) b
-
-all-next : (f : List ℕ) (b : ℕ) → allDigits f ≡ true → isDigit b ≡ true → allDigits (f ++ (b ∷ [])) ≡ true
-unfolding allDigits
-all-next [] b h k = rw k
-all-next (c ∷ f) b h k = rw (and-l (isDigit c) (allDigits f) h) (all-next f b (and-r (isDigit c) (allDigits f) h) k)
-
-digit-is : (d : ℕ) → d < 10 → isDigit (48 + d) ≡ true
-digit-is d h =
-    let a : 48 ≤ 48 + d = omega arith in
-    let b : 48 + d < 58 = omega arith in rw (le-leb 48 (48 + d) a, lt-ltb (48 + d) 58 b)
+use Rattle.text.specs.Decimals.{tenDigits, top, room-more, decimal-one, decimal-more}
 
 -- a field that does not begin with 0
 plain-of : (b : ℕ) (f : List ℕ) → eqb b 48 ≡ false → plain (b ∷ f) ≡ true
 plain-of b [] h = refl
 plain-of b (c ∷ f) h = rw h
 
--- what a number's digits are
-pub record Numeral (n : ℕ) (f : List ℕ) : Type 0 where
-  pub value : valueOf f ≡ n
-  pub all : allDigits f ≡ true
-  pub lead : 0 < n → (b : ℕ) × (g : List ℕ) × (f ≡ b ∷ g) × (eqb b 48 ≡ false)
+-- the digits of a number above 0 do not begin with 0
+Leads : ℕ → List ℕ → Type 0
+Leads n f = 0 < n → (b : ℕ) × (g : List ℕ) × (f ≡ b ∷ g) × (eqb b 48 ≡ false)
 
-numeral-one : (n : ℕ) → n < 10 → Numeral n ((48 + n) ∷ [])
-unfolding valueFrom allDigits
-numeral-one n h =
-    record {
-      value = omega arith;
-      all = rw (digit-is n h);
-      lead = λ p. (48 + n, [], refl, ne-eqb (48 + n) 48 (λ e. omega arith));
-    }
+leads-one : (n : ℕ) → n < 10 → Leads n ((48 + n) ∷ [])
+unfolding Leads
+leads-one n h p = (48 + n, [], refl, ne-eqb (48 + n) 48 (λ e. omega arith))
 
-numeral-more : (n : ℕ) (f : List ℕ) → 10 ≤ n → Numeral (n / 10) f → Numeral n (f ++ ((48 + n % 10) ∷ []))
-numeral-more n f h m =
-    record {
-      value = value-next f 0 (48 + n % 10) ∙ omega (arith, m .value);
-      all = all-next f (48 + n % 10) (m .all) (digit-is (n % 10) (omega arith));
-      lead = λ p. let w = m .lead (omega arith) in (w .0, w .1 ++ ((48 + n % 10) ∷ []), ap (λ (l : List ℕ). l ++ ((48 + n % 10) ∷ [])) (w .2), w .3);
-    }
+leads-more : (n : ℕ) (f : List ℕ) → 10 ≤ n → Leads (n / 10) f → Leads n (f ++ ((48 + n % 10) ∷ []))
+unfolding Leads
+leads-more n f h m p =
+    let w = m (omega arith) in (w .0, w .1 ++ ((48 + n % 10) ∷ []), ap (λ (l : List ℕ). l ++ ((48 + n % 10) ∷ [])) (w .2), w .3)
 
-numeral-in : (k n : ℕ) → n < top k → n < tenDigits → Numeral n (decimal n)
+leads-in : (k n : ℕ) → n < top k → n < tenDigits → Leads n (decimal n)
 unfolding top
-numeral-in zero n h l = subst (λ (f : List ℕ). Numeral n f) (sym (decimal-one n h)) (numeral-one n h)
-numeral-in (suc k) n h l =
+leads-in zero n h l = subst (λ (f : List ℕ). Leads n f) (sym (decimal-one n h)) (leads-one n h)
+leads-in (suc k) n h l =
     elim (decLe 10 n) [
       | yes d ↦
-          let m = numeral-in k (n / 10) (omega arith) (omega arith) in
-          subst (λ (f : List ℕ). Numeral n f) (sym (decimal-more n d l)) (numeral-more n (decimal (n / 10)) d m)
-      | no d ↦ subst (λ (f : List ℕ). Numeral n f) (sym (decimal-one n (omega arith))) (numeral-one n (omega arith))
+          let m = leads-in k (n / 10) (omega arith) (omega arith) in
+          subst (λ (f : List ℕ). Leads n f) (sym (decimal-more n d l)) (leads-more n (decimal (n / 10)) d m)
+      | no d ↦ subst (λ (f : List ℕ). Leads n f) (sym (decimal-one n (omega arith))) (leads-one n (omega arith))
     ]
 
-pub numeral : (n : ℕ) → n < tenDigits → Numeral n (decimal n)
-unfolding top
-numeral n h = numeral-in 9 n h h
-
 decimal-plain : (n : ℕ) → n < tenDigits → plain (decimal n) ≡ true
+unfolding Leads top
 decimal-plain zero h = ap plain (decimal-one 0 (omega arith))
 decimal-plain (suc n) h =
-    let w = numeral (suc n) h .lead (omega arith) in ap plain (w .2) ∙ plain-of (w .0) (w .1) (w .3)
+    let w = leads-in 9 (suc n) h h (omega arith) in ap plain (w .2) ∙ plain-of (w .0) (w .1) (w .3)
 
 -- ten digits are enough for every number that is written, which has at most 32 bits: its digits have its value, without leading zero, and
 -- room for more digits changes nothing
@@ -86,23 +58,22 @@ pub record WrittenInFull (n : ℕ) : Type 0 where
   pub no-more : (k : ℕ) → decimalIn (10 + k) n ≡ decimal n
 
 pub ten-digits-are-enough : (n : ℕ) → n ≤ 4294967295 → WrittenInFull n
-unfolding decimal top
+unfolding decimal top tens
 ten-digits-are-enough n h =
-    let m = numeral n (omega arith) in
     record {
-      value = m .value;
-      digits = m .all;
+      value = decimal-value n (omega arith);
+      digits = decimal-digits n;
       no-zero = decimal-plain n (omega arith);
       no-more = λ k. let z : 10 + k ≡ suc (k + 9) = omega arith in rw z (room-more k 9 (k + 9) n refl (omega arith));
     }
 
+pub value-decimal : (n : ℕ) → n ≤ 65535 → valueOf (decimal n) ≡ n
+unfolding tens
+value-decimal n h = decimal-value n (omega arith)
+
 pub decimal-number : (n : ℕ) → n ≤ 65535 → isNumber (decimal n) ≡ true
 decimal-number n h =
-    let m = numeral n (omega arith) in
-    good-number (decimal n) (decimal-plain n (omega arith)) (m .all) (omega (arith, m .value))
-
-pub value-decimal : (n : ℕ) → n ≤ 65535 → valueOf (decimal n) ≡ n
-value-decimal n h = numeral n (omega arith) .value
+    good-number (decimal n) (decimal-plain n (omega arith)) (decimal-digits n) (omega (arith, value-decimal n h))
 
 -- the digits after those of a number
 digits-after : (f : List ℕ) (v : ℕ) → 0 < v → allDigits f ≡ true → valueFrom v f < tenDigits → decimal (valueFrom v f) ≡ decimal v ++ f
@@ -152,16 +123,7 @@ number-decimal f h =
         digits-after (c ∷ f) (0 * 10 + (b - 48)) (apart b n lo) (and-r (isDigit b) (allDigits (c ∷ f)) d) (omega arith)
         ∙ ap (λ (l : List ℕ). l ++ (c ∷ f)) (lead-digit b i)
 
--- how many digits a number has at most
-size-in : (k n : ℕ) → n < top k → n < tenDigits → length (decimal n) ≤ k + 1
-unfolding top
-size-in zero n h l = omega (arith, ap length (decimal-one n h))
-size-in (suc k) n h l =
-    elim (decLe 10 n) [
-      | yes d ↦ omega (arith, decimal-size n d l, size-in k (n / 10) (omega arith) (omega arith))
-      | no d ↦ omega (arith, ap length (decimal-one n (omega arith)))
-    ]
-
+-- a number of 16 bits has at most five digits
 pub decimal-five : (n : ℕ) → n ≤ 65535 → length (decimal n) ≤ 5
-unfolding top
-decimal-five n h = size-in 4 n (omega arith) (omega arith)
+unfolding tens
+decimal-five n h = decimal-length 4 n (omega arith)

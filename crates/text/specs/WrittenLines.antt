@@ -2,16 +2,16 @@
 use mathlib.Core.Path.{_≡_, refl, sym, ap, _∙_}
 use mathlib.Core.Bool.{Bool, true, false, not, _&&_, false≢true}
 use mathlib.Core.List.{List, [], _∷_, _++_, append-assoc}
-use Prim.Native.Nat.{ℕ, _+_, _-_}
-use native.Mathlib.Omega.{arith}
-use lib.Dec.{leb, ltb, eqb}
-use borrow.Author.Tests.{ne-eqb, eq-eqb, leb-true, not-true}
+use Prim.Native.Nat.{ℕ, _+_}
+use lib.Dec.{leb, eqb}
+use borrow.Author.Tests.{eq-eqb, leb-true, not-true}
 use Rattle.document.specs.Text.{same, lines, ended, fields, firstOf, othersOf, isDigit, allDigits, plain, isNumber, allNumbers, valuesOf, valueOf, wellFormed, numbersOf, decimal, tabbed, decimals, lineOf}
-use Rattle.laws.specs.SumLaws.{and-l, and-r, and-i}
+use Rattle.laws.specs.SumLaws.{and-l, and-r}
+use Rattle.laws.specs.WrittenNumbers.{decimal-digits, digit-inside, fields-tabbed}
 use Rattle.text.specs.Places.{first, more, line, after}
 use Rattle.text.specs.Fields.{Sep, is-tab, is-lf, within, sep, fields-parts, fields-within, ended-within, lines-line}
 use Rattle.text.specs.Put.{fieldsOf, line-parts}
-use Rattle.text.specs.Numerals.{numeral, decimal-number, value-decimal, number-decimal}
+use Rattle.text.specs.Numerals.{decimal-number, value-decimal, number-decimal}
 use Rattle.laws.specs.Rounds.{same-eq}
 
 -- every byte is of a field
@@ -28,22 +28,12 @@ inside-head b f h =
       and-r (not (eqb b 10) && not (eqb b 9)) (inside f) h,
     )
 
-digit-inside : (b : ℕ) → isDigit b ≡ true → (not (eqb b 10) && not (eqb b 9)) ≡ true
-digit-inside b h =
-    let lo = leb-true 48 b (and-l (leb 48 b) (ltb b 58) h) in
-    rw (ne-eqb b 10 (λ e. omega arith), ne-eqb b 9 (λ e. omega arith))
-
 digits-inside : (f : List ℕ) → allDigits f ≡ true → inside f ≡ true
 unfolding inside allDigits
 digits-inside [] h = refl
 digits-inside (b ∷ f) h =
-    and-i (not (eqb b 10) && not (eqb b 9)) (inside f) (digit-inside b (and-l (isDigit b) (allDigits f) h))
-    (digits-inside f (and-r (isDigit b) (allDigits f) h))
-
--- every byte of each field is of a field
-unfoldable insides : List (List ℕ) → Bool
-insides [] = true
-insides (f ∷ fs) = inside f && insides fs
+    let i = digit-inside b (and-l (isDigit b) (allDigits f) h) in
+    rw (i .0, i .1) (digits-inside f (and-r (isDigit b) (allDigits f) h))
 
 -- a word before a text that begins with no field
 fields-word : (w t : List ℕ) (fs : List (List ℕ)) → inside w ≡ true → fields t ≡ [] ∷ fs → fields (w ++ t) ≡ w ∷ fs
@@ -52,12 +42,6 @@ fields-word (b ∷ w) t fs h e =
     let i = inside-head b w h in
     let r = fields-word w t fs (i .2) e in
     fields-within b (w ++ t) (i .0) (i .1) ∙ rw (ap firstOf r, ap othersOf r)
-
-fields-tabbed : (fs : List (List ℕ)) → insides fs ≡ true → fields (tabbed fs) ≡ [] ∷ fs
-unfolding tabbed fields insides
-fields-tabbed [] h = refl
-fields-tabbed (f ∷ fs) h =
-    ap (λ (l : List (List ℕ)). [] ∷ l) (fields-word f (tabbed fs) fs (and-l (inside f) (insides fs) h) (fields-tabbed fs (and-r (inside f) (insides fs) h)))
 
 -- no byte of it is LF
 unfoldable noLf : List ℕ → Bool
@@ -93,24 +77,19 @@ unfoldable pub small : List ℕ → Bool
 small [] = true
 small (v ∷ vs) = leb v 65535 && small vs
 
-decimals-good : (vs : List ℕ) → small vs ≡ true → (allNumbers (decimals vs) ≡ true) × (valuesOf (decimals vs) ≡ vs) × (insides (decimals vs) ≡ true)
-unfolding small decimals allNumbers valuesOf insides
-decimals-good [] h = (refl, refl, refl)
+decimals-good : (vs : List ℕ) → small vs ≡ true → (allNumbers (decimals vs) ≡ true) × (valuesOf (decimals vs) ≡ vs)
+unfolding small decimals allNumbers valuesOf
+decimals-good [] h = (refl, refl)
 decimals-good (v ∷ vs) h =
     let l = leb-true v 65535 (and-l (leb v 65535) (small vs) h) in
-    let r = decimals-good vs (and-r (leb v 65535) (small vs) h) in
-    let d = digits-inside (decimal v) (numeral v (omega arith) .all) in (
-      rw (decimal-number v l, r .0),
-      rw (value-decimal v l, r .1),
-      rw (d, r .2),
-    )
+    let r = decimals-good vs (and-r (leb v 65535) (small vs) h) in (rw (decimal-number v l, r .0), rw (value-decimal v l, r .1))
 
 fields-noLf : (vs : List ℕ) → small vs ≡ true → noLf (fieldsOf vs) ≡ true
 unfolding small fieldsOf noLf
 fields-noLf [] h = refl
 fields-noLf (v ∷ vs) h =
     let l = leb-true v 65535 (and-l (leb v 65535) (small vs) h) in
-    noLf-append (decimal v) (fieldsOf vs) (inside-noLf (decimal v) (digits-inside (decimal v) (numeral v (omega arith) .all)))
+    noLf-append (decimal v) (fieldsOf vs) (inside-noLf (decimal v) (digits-inside (decimal v) (decimal-digits v)))
     (fields-noLf vs (and-r (leb v 65535) (small vs) h))
 
 same-self : (w : List ℕ) → same w w ≡ true
@@ -131,15 +110,15 @@ lines-first a s h = split a ∙ rw (line-ends a s h .line-is, line-ends a s h .a
     split [] = lines-line 10 s
     split (b ∷ a) = lines-line b (a ++ (10 ∷ s))
 
-fields-line-of : (w vs : List ℕ) → inside w ≡ true → small vs ≡ true → fields (lineOf w vs) ≡ w ∷ decimals vs
+fields-line-of : (w vs : List ℕ) → inside w ≡ true → fields (lineOf w vs) ≡ w ∷ decimals vs
 unfolding lineOf
-fields-line-of w vs h k = fields-word w (tabbed (decimals vs)) (decimals vs) h (fields-tabbed (decimals vs) (decimals-good vs k .2))
+fields-line-of w vs h = fields-word w (tabbed (decimals vs)) (decimals vs) h (fields-tabbed vs)
 
 pub line-written : (w vs : List ℕ) → inside w ≡ true → small vs ≡ true → LineReads w vs
 unfolding wellFormed numbersOf
 line-written w vs h k =
     let d = decimals-good vs k in
-    let whole = fields-line-of w vs h k in
+    let whole = fields-line-of w vs h in
     let n = noLf-append w (fieldsOf vs) (inside-noLf w h) (fields-noLf vs k) in
     record {
       formed = rw (ap firstOf whole, ap othersOf whole, same-self w, d .0) (ap ended (sym (line-parts w vs)) ∙ line-ends (w ++ fieldsOf vs) [] n .ended-is);

@@ -1,5 +1,5 @@
 -- `list_routes`: the first k entries are the routes, links and tries. Assumes nothing beyond its `requires`.
-use mathlib.Core.Path.{_≡_, refl, sym, ap, _∙_}
+use mathlib.Core.Path.{_≡_, refl}
 use Prim.Native.Nat.{_-_, _≤_}
 use native.Mathlib.Omega.{arith}
 use Rattle.delay.specs.AcceptedFlows.{count-at}

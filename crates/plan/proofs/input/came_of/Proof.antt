@@ -1,7 +1,7 @@
 -- The tests go by the sign of the answer, and only where it is negative by the error: each way is one case of the definition.
 use mathlib.Core.Path.{_≡_, refl, sym, ap, subst, _∙_}
 use mathlib.Core.Bool.{true, false, false≢true}
-use Prim.Native.Nat.{ℕ, zero, suc}
+use Prim.Native.Nat.{zero, suc}
 use native.Mathlib.Nat.{lt-of-le-of-lt}
 use native.Mathlib.Omega.{arith}
 use borrow.Author.Tests.{ltb-false, ne-eqb}
@@ -11,7 +11,7 @@ use lib.Signed.{ltZ, nonNeg, natAbs-le}
 use mir.Syntax.{w32, w64}
 use mir.Val.{Fits, toZ, ofZ}
 use mir.ValLaws.{toZ-ofZ}
-use Rattle.plan.specs.declared.input.Came.the-variants.{Bytes, End, Interrupted, Broken}
+use Rattle.plan.specs.declared.input.Came.the-variants.{Bytes, Interrupted, Broken}
 use Rattle.plan.specs.Reads.{cameOf}
 use Rattle.plan.proofs.input.came_of.Statement.{statement}
 use Rattle.plan.proofs.input.came_of.Tie as tie

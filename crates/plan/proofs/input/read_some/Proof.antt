@@ -1,5 +1,5 @@
 -- A positive answer of a read is at most the buffer's length, by the contract of the C library's read.
-use mathlib.Core.Path.{_≡_, sym, subst}
+use mathlib.Core.Path.{sym, subst}
 use mathlib.Core.Bool.{Bool, true, false, cond}
 use Prim.Native.Nat.{ℕ, zero, suc, zero-le, suc-le-suc}
 use lib.IntN.{ℤ, pos, negsuc}

@@ -25,7 +25,8 @@ rem-t7 c = search needs
 
 sub-t8 : tie.Need-sub-t8
 sub-t8 c =
-    let a = c .before .before .before .before .before .before .before .before .args in
+    let tested = c .before .before .before .before in
+    let a = tested .before .before .before .before .args in
     omega (arith, mod-le (a .self .0 - a .first .0) (a .period .0))
 
 returns-3 : tie.Need-returns-3
