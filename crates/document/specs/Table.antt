@@ -8,14 +8,14 @@ use Prim.Native.String as string
 use lib.{Count.{ones, onesIn}, Dec.{eqb, T}, IntN.{ℤ, pos, negsuc}, ListN.{getD, length, take, replicate}}
 use Rattle.model.specs.declared.kinds.FlowSet.{FlowSet}
 use Rattle.model.specs.declared.answers.{Fault.{Fault}, Reading.{Reading}, Send.{Send}, Delivery.{Delivery}, Stepped.{Stepped}, Written.{Written}}
-use Rattle.model.specs.declared.answers.{VerdictAnswer.{VerdictAnswer}, BoundsAnswer.{BoundsAnswer}, SlotAnswer.{SlotAnswer}}
+use Rattle.model.specs.declared.answers.{VerdictAnswer.{VerdictAnswer}, BoundsAnswer.{BoundsAnswer}, SlotAnswer.{SlotAnswer}, TableAnswer.{TableAnswer}}
 use Rattle.model.specs.{Refusals.{refusalNumber}, Sums.{sumTo, anyTo, allTo}, Sets.{flowAt, used, anyOf, meet, listTo, filterTo}}
 use Rattle.document.specs.Text.{same, lines, ended, fields, allDigits, valueFrom, isNumber, allNumbers, valuesOf, wellFormed, numbersOf, decimalIn, decimal, tabbed, decimals, lineOf}
 use Rattle.document.specs.Reader.{twice, flowFault, flowsFault, recordFault, flowOf, withFlow, firstLineFault, flowLineFault, readFlows, setOf, readLines, readText, flowLines, textOf, pad, writeFault, writeAnswer, writeInto}
 use Rattle.document.specs.Delay.{conflictWork, share, overOthers, boundWith, basicBound, valueAt, deadlines, lowered, roundTo, roundsIn, reached, tightBound, admits, verdictOf, boundsFault, boundsOf}
 use Rattle.document.specs.Machine.{ready, nextCount, insert, ordered, place, channelsTo, radioChannel, sendOf, sendsFrom, sendsAt, deliveriesOf, droppedAt, badState, stepFault, stepOf, runOf, countWith, deliveredWith, droppedWith, nextWith, placedWith, runWith, stepWith}
 use Rattle.document.specs.Program.{stateLength, stateBytes, stateOf, sendNumbers, sendLines, slotLines, slotFault, slotState, slotBuffer, boundLines, runLines, planOf, planText}
-use Rattle.document.specs.ForC.{verdictOfReading, boundsOfReading, slotAnswer, verdictForC, boundsForC, slotForC}
+use Rattle.document.specs.ForC.{verdictOfReading, boundsOfReading, slotAnswer, boundsRows, tableFault, tableAnswer, tableAfter, verdictForC, boundsForC, slotForC, allBoundsForC}
 
 -- the bytes of a quoted text
 unfoldable pub bytes : string.String → List ℕ
@@ -44,6 +44,8 @@ pub data Claim : Type 0 where
   boundsC : ℕ → List ℕ → ℤ → Claim  -- flow; refusal, line, C, basic, tightened, deadline; margin
   -- one slot for C: the state's first bytes, before zeros; the buffer; refusal, line, length; the state and the buffer after it
   slotC : List ℕ → string.String → List ℕ → List ℕ → string.String → Claim
+  -- the bounds of all flows for C: the table; refusal, line, numbers; the table after it
+  tableC : List ℕ → List ℕ → List ℕ → Claim
   badLength : ℕ → List ℕ → Claim  -- a state of this many zeros, and a buffer of none: refusal, line, length
   -- a slot of the run: its sends with their offsets, before the channel; flow and delay of its deliveries; its drops
   report : ℕ → List (List ℕ) → List (List ℕ) → List ℕ → Claim
@@ -81,6 +83,9 @@ writtenRow w = refusalNumber (w .fault .refusal) ∷ w .fault .line ∷ w .lengt
 
 slotRow : SlotAnswer → List ℕ
 slotRow a = a .refusal ∷ a .line ∷ a .length ∷ []
+
+tableRow : TableAnswer → List ℕ
+tableRow a = a .refusal ∷ a .line ∷ a .numbers ∷ []
 
 offsetRows : List Send → List (List ℕ)
 offsetRows [] = []
@@ -128,6 +133,7 @@ holds text r s (slotC st b ns st' b') =
     same (slotRow (slotForC text (pad stateLength st) (length (bytes b)))) ns
     && same (slotState r (pad stateLength st) (length (bytes b))) (pad stateLength st')
     && same (slotBuffer r (pad stateLength st) (bytes b)) (bytes b')
+holds text r s (tableC b ns b') = same (tableRow (allBoundsForC text (length b))) ns && same (tableAfter r b) b'
 holds text r s (badLength n ns) = same (slotRow (slotForC text (replicate n 0) 0)) ns
 holds text r s (report t xs ds ks) = reportHolds (stepOf s (runOf s t .last)) xs ds ks
 holds text r s (lineOfFlow k l n) = eqb (refusalNumber (flowLineFault k (bytes l))) n
@@ -278,6 +284,7 @@ points =
     ∷ point "set\t0\n"
     (verdictC (2 ∷ 1 ∷ 0 ∷ 0 ∷ 0 ∷ [])
     ∷ badLength 67 (2 ∷ 1 ∷ 0 ∷ [])
+    ∷ tableC (9 ∷ []) (2 ∷ 1 ∷ 0 ∷ []) (9 ∷ [])
     ∷ writes "......" (2 ∷ 1 ∷ 0 ∷ []) "......"
     ∷ plan ("refused\t2\t1\n" ∷ [])
     ∷ []
@@ -362,6 +369,8 @@ points =
     ∷ slotC (0 ∷ 0 ∷ 0 ∷ 0 ∷ 0 ∷ 0 ∷ 1 ∷ []) "" (12 ∷ 0 ∷ 0 ∷ []) (0 ∷ 0 ∷ 0 ∷ 0 ∷ 0 ∷ 0 ∷ 1 ∷ []) ""
     ∷ badLength 67 (12 ∷ 0 ∷ 0 ∷ [])
     ∷ badLength 69 (12 ∷ 0 ∷ 0 ∷ [])
+    ∷ tableC (9 ∷ 9 ∷ 9 ∷ 9 ∷ 9 ∷ 9 ∷ 9 ∷ 9 ∷ 9 ∷ []) (0 ∷ 0 ∷ 8 ∷ []) (2 ∷ 4 ∷ 2 ∷ 8 ∷ 2 ∷ 6 ∷ 6 ∷ 20 ∷ 9 ∷ [])
+    ∷ tableC (9 ∷ 9 ∷ 9 ∷ 9 ∷ 9 ∷ 9 ∷ 9 ∷ []) (10 ∷ 0 ∷ 0 ∷ []) (9 ∷ 9 ∷ 9 ∷ 9 ∷ 9 ∷ 9 ∷ 9 ∷ [])
     ∷ copies 64 0 0
     ∷ copies 65 3 66
     ∷ []
@@ -369,5 +378,5 @@ points =
     ∷ []
 
 pub every-point : T (every points)
-unfolding every points point allHold holds same? sameSigned faultIs writtenRow slotRow offsetRows deliveryRows reportHolds rowsTo flowsOf rows sameRows bytes bytesOf same lines ended fields allDigits valueFrom isNumber allNumbers valuesOf wellFormed numbersOf decimalIn decimal tabbed decimals lineOf twice flowFault flowsFault recordFault flowOf withFlow firstLineFault flowLineFault readFlows setOf readLines readText flowLines textOf writeFault writeAnswer writeInto conflictWork share overOthers boundWith basicBound valueAt deadlines lowered roundTo roundsIn reached tightBound admits verdictOf boundsFault boundsOf ready nextCount insert ordered place placedWith channelsTo radioChannel sendOf sendsFrom countWith deliveredWith deliveriesOf droppedWith nextWith badState stepFault stepWith runWith stateBytes stateOf sendLines slotLines slotFault slotState slotBuffer boundLines runLines planOf planText verdictOfReading boundsOfReading slotAnswer verdictForC boundsForC slotForC verdictRow boundsRow sumTo anyTo allTo used anyOf meet listTo filterTo ones onesIn
+unfolding every points point allHold holds same? sameSigned faultIs writtenRow slotRow offsetRows deliveryRows reportHolds rowsTo flowsOf rows sameRows bytes bytesOf same lines ended fields allDigits valueFrom isNumber allNumbers valuesOf wellFormed numbersOf decimalIn decimal tabbed decimals lineOf twice flowFault flowsFault recordFault flowOf withFlow firstLineFault flowLineFault readFlows setOf readLines readText flowLines textOf writeFault writeAnswer writeInto conflictWork share overOthers boundWith basicBound valueAt deadlines lowered roundTo roundsIn reached tightBound admits verdictOf boundsFault boundsOf ready nextCount insert ordered place placedWith channelsTo radioChannel sendOf sendsFrom countWith deliveredWith deliveriesOf droppedWith nextWith badState stepFault stepWith runWith stateBytes stateOf sendLines slotLines slotFault slotState slotBuffer boundLines runLines planOf planText verdictOfReading boundsOfReading slotAnswer boundsRows tableFault tableAnswer tableAfter verdictForC boundsForC slotForC allBoundsForC tableRow verdictRow boundsRow sumTo anyTo allTo used anyOf meet listTo filterTo ones onesIn
 every-point = tt
