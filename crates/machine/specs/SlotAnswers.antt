@@ -69,11 +69,6 @@ sends-by P s st send h o [] e = refl
 sends-by P s st send h o (k ∷ ks) e =
     ap₂ (λ (x : Send) (r : List Send). x ∷ r) (h k o (e .0)) (sends-by P s st send h (o + 1) ks (e .1))
 
-pub length-from : (s : FlowSet) (st : State) (o : ℕ) (ks : List ℕ) → length (sendsFrom s st o ks) ≡ length ks
-unfolding sendsFrom
-length-from s st o [] = refl
-length-from s st o (k ∷ ks) = ap suc (length-from s st (o + 1) ks)
-
 -- the array of a slot's sends
 abbrev pub sendArray : (ℕ → ℕ → Send) → List ℕ → List Send
 sendArray send ks = filled mostChannels noSend (sendsOf send 0 ks)

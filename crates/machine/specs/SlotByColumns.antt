@@ -37,7 +37,8 @@ use Rattle.machine.specs.ReadyOrder.{Each, each-at, each-wide, waiting-e
 use Rattle.machine.specs.PlacedChoice.{Choice, choiceBy, linkBy, clashOf, orderedBy, placed-by, place-ext, placed-each, placed-ready, delivered-le}
 use Rattle.machine.specs.LinkColumns.{Routes, linkIn, LinksThere, PlacedLinks, link-is, link-in-route}
 use Rattle.machine.specs.States.{badBy, mostCount, GoodState, had-le, count-after-le, fresh-good, good-not-bad, next-good, next-slot, step-good, run-none, run-next}
-use Rattle.machine.specs.SlotAnswers.{sendBy, sendsOf, sends-by, length-from, deliveredBy, deliveredTo, deliveriesBy, deliveryArray, length-deliveries, droppedBy, droppedTo, countBy, deliveries-by, delivered-by, dropped-by, after-by, next-by, MarkedDelayed}
+use Rattle.promise.specs.Reports.{sends-length}
+use Rattle.machine.specs.SlotAnswers.{sendBy, sendsOf, sends-by, deliveredBy, deliveredTo, deliveriesBy, deliveryArray, length-deliveries, droppedBy, droppedTo, countBy, deliveries-by, delivered-by, dropped-by, after-by, next-by, MarkedDelayed}
 
 -- a set's numbers in arrays: no start, period or deadline of the first n flows exceeds 16 bits
 abbrev pub SmallTo : ℕ → List ℕ → List ℕ → List ℕ → Type 0
@@ -268,7 +269,7 @@ module _ (s : FlowSet) (st : State) (p : Packets) (deadline order : List ℕ) (w
         let q = used-count s in
         let flows : List ℕ = filterTo (deliveredWith first u st) (u .count) in
         let sn : n ≡ length (sendsWith first u st) =
-        sym (length-take-le n chosen (omega (arith, c .few, c .long-chosen))) ∙ ap length (c .list) ∙ sym (length-from u st 0 (placedWith first u st)) in
+        sym (length-take-le n chosen (omega (arith, c .few, c .long-chosen))) ∙ ap length (c .list) ∙ sym (sends-length u st 0 (placedWith first u st)) in
         let ks : delivered ≡ flows = ap₂ filterTo (delivered-by u st p deadline (r .packets) first chosen marked n c) (sym q) in
         let dd : deliveriesBy (st .slot .0) deadline (p .due) delivered ≡ deliveriesOf u st flows =
         ap (deliveriesBy (st .slot .0) deadline (p .due)) ks ∙ deliveries-by u st p deadline (r .packets) flows in

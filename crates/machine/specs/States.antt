@@ -1,7 +1,7 @@
 -- Good states: 12 finds no fault in them, a step leads from one to the next, and a run of n slots from the fresh state ends in a good one
 -- at slot n, as far as the last slot, where a step changes nothing.
 use mathlib.Core.Path.{_≡_, refl, sym, ap, ap₂, _∙_}
-use mathlib.Core.Bool.{Bool, true, false, not, _||_, cond, false≢true}
+use mathlib.Core.Bool.{Bool, true, false, _||_, cond, false≢true}
 use mathlib.Core.List.{List, []}
 use Prim.Native.Nat.{ℕ, zero, suc, _+_, _-_, _≤_, _<_, zero-le, min}
 use native.Mathlib.Nat.{le-refl, add-zero}

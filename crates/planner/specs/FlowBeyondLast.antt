@@ -1,4 +1,4 @@
--- A flow number beyond the last flow's may be cut to the count: there is no such flow either way.
+-- A flow number beyond the last flow's may be cut to the count: no flow has either number.
 use mathlib.Core.Path.{_≡_, refl, sym, ap, _∙_}
 use mathlib.Core.Bool.{Bool, true, false, cond}
 use Prim.Native.Nat.{ℕ, _≤_}
