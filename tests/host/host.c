@@ -301,7 +301,7 @@ static void longest_lines(uint32_t slot, int at_end)
 
 /* ---- the header's limits: each is good, one more is refused */
 
-/* A set of so many flows with so many nodes of five digits and so many tries, every number as long as it can be. */
+/* A set with these counts of flows, of nodes of five digits and of tries, every number as long as it can be. */
 static size_t large_set(char *text, int flows, int nodes, int tries)
 {
     int k, i;

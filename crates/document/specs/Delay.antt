@@ -3,9 +3,9 @@
 -- have it tightened. 001's W(ν) of 5.5 is not used: min(S, max(0, ·)) is 000's (11). Differences of naturals end at 0, which is document
 -- 01's max(0, ·).
 -- A set here is one without the entries that don't count (`used`), k the flow that is judged and l another.
-use mathlib.Core.{Path.{_≡_}, Bool.{Bool, true, false, cond}, List.{List, [], _∷_, _++_}}
+use mathlib.Core.{Path.{_≡_}, Bool.{Bool, true, false, cond}, List.{List}}
 use Prim.Native.Nat.{ℕ, zero, suc, _+_, _-_, _*_, _/_, _%_, _≤_, _<_, min}
-use lib.{Count.{ones}, Dec.{leb, ltb, eqb}, IntN.{pos, _-ℤ_}, ListN.{length, getD, take, drop, set}}
+use lib.{Count.{ones}, Dec.{leb, eqb}, IntN.{pos, _-ℤ_}, ListN.{length, getD, take, drop, set}}
 use Rattle.model.specs.declared.kinds.{Flow.{Flow}, FlowSet.{FlowSet}}
 use Rattle.model.specs.declared.answers.{Fault.{Fault}, Verdict.{Verdict}, Bounds.{Bounds}, Refusal.the-variants.{NoSuchFlow}}
 use Rattle.model.specs.{Refusals.{good, faultAt, noFault, orElse}, Sums.{bit, sumTo, allTo}, Sets.{links, work, flowAt, listTo, meet}}

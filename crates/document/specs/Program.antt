@@ -1,7 +1,7 @@
 -- Document 01, "What is planned, and from what" (the state's 68 bytes, the step on text) and "The plan program".
-use mathlib.Core.{Bool.{Bool, true, false, not, _||_, cond}, List.{List, [], _∷_, _++_}}
+use mathlib.Core.{Bool.{Bool, true, false, cond}, List.{List, [], _∷_, _++_}}
 use Prim.Native.Nat.{ℕ, zero, suc, _+_, _*_, _/_, _%_}
-use lib.{Dec.{leb, ltb, eqb}, IntN.{ℤ, pos, negsuc}, ListN.{length, getD, take, drop}}
+use lib.{Dec.{ltb, eqb}, IntN.{ℤ, pos, negsuc}, ListN.{length, getD, drop}}
 use Rattle.model.specs.declared.kinds.{FlowSet.{FlowSet}, State.{State}}
 use Rattle.model.specs.declared.answers.{Fault.{Fault}, Reading.{Reading}, Refusal.the-variants.{NoRoom, BadState}, Send.{Send}}
 use Rattle.model.specs.declared.answers.{Verdict.{Verdict}, Bounds.{Bounds}, Written.{Written}}

@@ -2,10 +2,10 @@
 -- rows of our own, for what no P says: starts, several tries beside another flow, offsets, deliveries, the refusals that are only run, a
 -- state's bytes, buffers, what C is answered.
 -- The sets are their texts, run through the reader's definition; the checker computes the rest.
-use mathlib.Core.{Bool.{Bool, true, false, not, _&&_, cond}, List.{List, [], _∷_, _++_}}
+use mathlib.Core.{Bool.{Bool, true, false, not, _&&_}, List.{List, [], _∷_, _++_}}
 use Prim.Native.{Char.{code}, Nat.{ℕ, zero, suc, _+_}}
 use Prim.Native.String as string
-use lib.{Count.{ones, onesIn}, Dec.{eqb, T}, IntN.{ℤ, pos, negsuc}, ListN.{getD, length, take, replicate}}
+use lib.{Count.{ones, onesIn}, Dec.{eqb, T}, IntN.{ℤ, pos, negsuc}, ListN.{length, take, replicate}}
 use Rattle.model.specs.declared.kinds.FlowSet.{FlowSet}
 use Rattle.model.specs.declared.answers.{Fault.{Fault}, Reading.{Reading}, Send.{Send}, Delivery.{Delivery}, Stepped.{Stepped}, Written.{Written}}
 use Rattle.model.specs.declared.answers.{VerdictAnswer.{VerdictAnswer}, BoundsAnswer.{BoundsAnswer}, SlotAnswer.{SlotAnswer}, TableAnswer.{TableAnswer}}

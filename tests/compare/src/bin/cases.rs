@@ -45,7 +45,7 @@ fn small() -> Set {
     read(b"set\t3\nflow\t10\t8\t0\t1\t1\t2\t3\n").1
 }
 
-/// It, with so many nodes in every place of the array, and this map and count.
+/// The same flow in every place of the array, with this count of nodes, and this map and count of flows.
 fn record_case(map: u16, count: u16, nodes: u16) {
     let mut set = small();
     set.map = map;
