@@ -78,7 +78,10 @@ pub fn named(tally: &mut Tally) {
         over_text(tally, &mut rng, &damaged.text);
     }
     for length in [MOST_BYTES, MOST_BYTES + 1] {
-        plan(tally, &mut rng, &Text::new(&vec![b'x'; length]));
+        // the room is drawn: once might be once too short to show the difference
+        for _ in 0..16 {
+            plan(tally, &mut rng, &Text::new(&vec![b'x'; length]));
+        }
     }
     let text = Text::new(b"set\t1\nflow\t10\t10\t0\t2\t1\t2\n");
     for slot in [0, 3_999_999_999, 4_000_000_000, 4_000_000_001] {
