@@ -15,7 +15,7 @@ use native.Mathlib.Decide.{decLe}
 use native.Mathlib.Omega.{arith}
 use lib.Dec.{eqb}
 use Rattle.model.specs.Sets.{flowAt}
-use Rattle.laws.specs.Accepted.{Accepted, work-small}
+use Rattle.laws.specs.{Accepted.{Accepted}, TestAnswers.{work-le-most}}
 use Rattle.laws.specs.SumLaws.{sum-ext}
 use Rattle.laws.specs.Values.{conflict-le-work}
 use Rattle.delay.specs.ShareRows.{FlowNumbersTo, flow-numbers-start, ZeroFrom, remainderRow, packetSum, SmallWork, SharesTo}
@@ -110,9 +110,6 @@ filled-ext f g n t e o = record { whole = o .whole; entry = λ i h. o .entry i h
 module _ (s : FlowSet) (a : Accepted s) (p d w : List ℕ) (o : FlowNumbersTo s (s .count) p d w)
     (c : List ℕ) (g : RowsTo (conflictOf s) (s .count) (s .count) c) where
   -- C, and with it S, is at most 64
-  works-small : (l : ℕ) → l < s .count → workAt s l ≤ 64
-  works-small l h = work-small (flowAt s l) (a .flow l h)
-
   pub small-rows : (k : ℕ) → SmallWork c w k
   small-rows k =
       record {
@@ -122,12 +119,12 @@ module _ (s : FlowSet) (a : Accepted s) (p d w : List ℕ) (o : FlowNumbersTo s 
             | yes r ↦ let e = g .none k l h (inl r) in omega arith
             | no r ↦
                 let e = g .row k l (omega arith) (omega arith) in
-                le-trans (le-of-eq e) (le-trans (conflict-le-work (flowAt s k) (flowAt s l)) (works-small l (omega arith)))
+                le-trans (le-of-eq e) (le-trans (conflict-le-work (flowAt s k) (flowAt s l)) (work-le-most s a l (omega arith)))
           ]
         ];
         works = λ l h. elim (decLe (s .count) l) [
           | yes q ↦ let e = o .works .none l q in omega arith
-          | no q ↦ le-trans (le-of-eq (o .works .entry l (omega arith))) (works-small l (omega arith))
+          | no q ↦ le-trans (le-of-eq (o .works .entry l (omega arith))) (work-le-most s a l (omega arith))
         ];
       }
 
@@ -162,6 +159,6 @@ module _ (s : FlowSet) (a : Accepted s) (p d w : List ℕ) (o : FlowNumbersTo s 
         works = o .works;
         whole-conflicts = filled-ext _ _ _ x (λ k h. whole-carried k h (λ l. pairAt c k l) (conflictOf s k) (λ l j. g .row k l h j)) (r .conflicts);
         whole-works = filled-ext _ _ _ y works (r .works);
-        works-le = works-small;
+        works-le = work-le-most s a;
         whole-works-le = λ k h. le-trans (le-of-eq (sym (works k h))) (r .works-le k h);
       }

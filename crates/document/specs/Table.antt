@@ -75,8 +75,8 @@ rowsTo s (suc n) = rowsTo s n ++ rows (sendsAt s (runOf s n .last))
 verdictRow : VerdictAnswer → List ℕ
 verdictRow v = v .refusal ∷ v .line ∷ v .basic ∷ v .tightened ∷ v .rounds ∷ []
 
-boundsRow : BoundsAnswer → List ℕ
-boundsRow b = b .refusal ∷ b .line ∷ b .work ∷ b .basic ∷ b .tightened ∷ b .deadline ∷ []
+boundsAnswerRow : BoundsAnswer → List ℕ
+boundsAnswerRow b = b .refusal ∷ b .line ∷ b .work ∷ b .basic ∷ b .tightened ∷ b .deadline ∷ []
 
 writtenRow : Written → List ℕ
 writtenRow w = refusalNumber (w .fault .refusal) ∷ w .fault .line ∷ w .length ∷ []
@@ -128,7 +128,7 @@ holds text r s (flowsIn t ks) = same (flowsOf (sendsAt s (runOf s t .last))) ks
 holds text r s (drops t ks) = same (filterTo (droppedAt s (runOf s t .last)) (s .count)) ks
 holds text r s (plan p) = same (planText text) (bytesOf p)
 holds text r s (verdictC ns) = same (verdictRow (verdictForC text)) ns
-holds text r s (boundsC k ns m) = same (boundsRow (boundsForC text k)) ns && sameSigned (boundsForC text k .margin) m
+holds text r s (boundsC k ns m) = same (boundsAnswerRow (boundsForC text k)) ns && sameSigned (boundsForC text k .margin) m
 holds text r s (slotC st b ns st' b') =
     same (slotRow (slotForC text (pad stateLength st) (length (bytes b)))) ns
     && same (slotState r (pad stateLength st) (length (bytes b))) (pad stateLength st')
@@ -378,5 +378,5 @@ points =
     ∷ []
 
 pub every-point : T (every points)
-unfolding every points point allHold holds same? sameSigned faultIs writtenRow slotRow offsetRows deliveryRows reportHolds rowsTo flowsOf rows sameRows bytes bytesOf same lines ended fields allDigits valueFrom isNumber allNumbers valuesOf wellFormed numbersOf decimalIn decimal tabbed decimals lineOf twice flowFault flowsFault recordFault flowOf withFlow firstLineFault flowLineFault readFlows setOf readLines readText flowLines textOf writeFault writeAnswer writeInto conflictWork share overOthers boundWith basicBound valueAt deadlines lowered roundTo roundsIn reached tightBound admits verdictOf boundsFault boundsOf ready nextCount insert ordered place placedWith channelsTo radioChannel sendOf sendsFrom countWith deliveredWith deliveriesOf droppedWith nextWith badState stepFault stepWith runWith stateBytes stateOf sendLines slotLines slotFault slotState slotBuffer boundLines runLines planOf planText verdictOfReading boundsOfReading slotAnswer boundsRows tableFault tableAnswer tableAfter verdictForC boundsForC slotForC allBoundsForC tableRow verdictRow boundsRow sumTo anyTo allTo used anyOf meet listTo filterTo ones onesIn
+unfolding every points point allHold holds same? sameSigned faultIs writtenRow slotRow offsetRows deliveryRows reportHolds rowsTo flowsOf rows sameRows bytes bytesOf same lines ended fields allDigits valueFrom isNumber allNumbers valuesOf wellFormed numbersOf decimalIn decimal tabbed decimals lineOf twice flowFault flowsFault recordFault flowOf withFlow firstLineFault flowLineFault readFlows setOf readLines readText flowLines textOf writeFault writeAnswer writeInto conflictWork share overOthers boundWith basicBound valueAt deadlines lowered roundTo roundsIn reached tightBound admits verdictOf boundsFault boundsOf ready nextCount insert ordered place placedWith channelsTo radioChannel sendOf sendsFrom countWith deliveredWith deliveriesOf droppedWith nextWith badState stepFault stepWith runWith stateBytes stateOf sendLines slotLines slotFault slotState slotBuffer boundLines runLines planOf planText verdictOfReading boundsOfReading slotAnswer boundsRows tableFault tableAnswer tableAfter verdictForC boundsForC slotForC allBoundsForC tableRow verdictRow boundsAnswerRow sumTo anyTo allTo used anyOf meet listTo filterTo ones onesIn
 every-point = tt
