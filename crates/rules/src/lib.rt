@@ -1,11 +1,10 @@
-// Rules 2 to 9 of document 01, in their order, of the numbers that a line holds: each function has two tests or so and hands the rest on,
-// so that each is proved by a short chain of tests. And the record check: the same rules of a set that is handed over as a record, line by
-// line as its text would be judged.
+// Rules 2 to 9 of document 01, in their order, of the numbers that a line holds. And the record check: the same rules of a set that is
+// handed over as a record, line by line as its text would be judged.
 ghost use mathlib.Core.Path.{_≡_};
-ghost use Prim.Native.Nat.{_<_, _≤_};
-ghost use Rattle.rules.specs.Rules.{deadlineFault, routeFault, triesFault, workFault};
-ghost use Rattle.model.specs.Limits.{mostNodes};
+ghost use mathlib.Core.Bool.{_||_};
+ghost use lib.Dec.{ltb};
 ghost use lib.ListN.{take};
+ghost use Rattle.rules.specs.Rules.{routeFault};
 ghost use Rattle.document.specs.Reader.{flowFault, flowsFault, mapFault, recordFault, recordFlowFault};
 ghost use Rattle.model.specs.Sets.{exact, used};
 
@@ -17,64 +16,31 @@ use model::Flow;
 use model::FlowSet;
 use model::Refusal;
 
-// Rule 9.
-fn work_fault(deadline: u16, tries: u16, nodes: usize) -> Refusal
-    requires { ⌜ (0 < nodes) × (nodes ≤ mostNodes) ⌝ }
-    ensures { λ r. ⌜ r ≡ workFault deadline tries nodes ⌝ }
+// Whether a number is below the least or above the most that a rule allows.
+fn outside(value: usize, least: usize, most: usize) -> bool
+    ensures { λ r. ⌜ r ≡ (ltb value least || ltb most value) ⌝ }
 {
-    let work = (nodes - 1) * (tries as usize);
-    if (deadline as usize) < work {
-        return Refusal::TooMuchWork;
+    if value < least {
+        return true;
     }
-    Refusal::Nothing
+    most < value
 }
 
-// Rules 7 to 9.
+// Rules 7 to 9. Nodes of the route beyond the array are never looked at.
 fn route_fault(deadline: u16, tries: u16, nodes: usize, route: [u16; Flow::MOST_NODES]) -> Refusal
     ensures { λ r. ⌜ r ≡ routeFault deadline tries nodes (take nodes route) ⌝ }
 {
-    if nodes < 2 {
-        return Refusal::BadRoute;
-    }
-    if Flow::MOST_NODES < nodes {
+    if outside(nodes, 2, Flow::MOST_NODES) {
         return Refusal::BadRoute;
     }
     if repeats(route, nodes) {
         return Refusal::NodeTwice;
     }
-    work_fault(deadline, tries, nodes)
-}
-
-// Rules 6 to 9.
-fn tries_fault(deadline: u16, tries: u16, nodes: usize, route: [u16; Flow::MOST_NODES]) -> Refusal
-    ensures { λ r. ⌜ r ≡ triesFault deadline tries nodes (take nodes route) ⌝ }
-{
-    if tries == 0 {
-        return Refusal::BadTries;
+    let work = (nodes - 1) * (tries as usize);
+    if (deadline as usize) < work {
+        return Refusal::TooMuchWork;
     }
-    if 4 < tries {
-        return Refusal::BadTries;
-    }
-    route_fault(deadline, tries, nodes, route)
-}
-
-// Rules 5 to 9.
-fn deadline_fault(
-    period: u16,
-    deadline: u16,
-    tries: u16,
-    nodes: usize,
-    route: [u16; Flow::MOST_NODES],
-) -> Refusal
-    ensures { λ r. ⌜ r ≡ deadlineFault period deadline tries nodes (take nodes route) ⌝ }
-{
-    if deadline == 0 {
-        return Refusal::BadDeadline;
-    }
-    if period < deadline {
-        return Refusal::BadDeadline;
-    }
-    tries_fault(deadline, tries, nodes, route)
+    Refusal::Nothing
 }
 
 // Rule 2.
@@ -87,7 +53,7 @@ pub fn map_fault(bits: u16) -> Refusal
     Refusal::Nothing
 }
 
-// Rules 3 to 9 of the flow that is number k. Nodes of its route beyond the array are never looked at.
+// Rules 3 to 9 of the flow that is number k.
 pub fn flow_fault(
     k: usize,
     period: u16,
@@ -104,7 +70,13 @@ pub fn flow_fault(
     if period == 0 {
         return Refusal::BadPeriod;
     }
-    deadline_fault(period, deadline, tries, nodes, route)
+    if outside(deadline as usize, 1, period as usize) {
+        return Refusal::BadDeadline;
+    }
+    if outside(tries as usize, 1, 4) {
+        return Refusal::BadTries;
+    }
+    route_fault(deadline, tries, nodes, route)
 }
 
 // Rules 3 to 9 of a flow of a record.
