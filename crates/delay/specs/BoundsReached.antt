@@ -5,11 +5,11 @@ use mathlib.Core.List.{List}
 use Prim.Native.Nat.{ℕ, _-_, _≤_, _<_}
 use lib.ListN.{getD, replicate, length-replicate}
 use Rattle.model.specs.declared.kinds.FlowSet.{FlowSet}
-use Rattle.document.specs.Delay.{deadline, ways, basicBound, reached, tightBound, boundsOf, deadlines, refusedBounds}
+use Rattle.document.specs.Delay.{deadline, ways, basicBound, reached, tightBound, boundsOf, deadlines}
 use Rattle.delay.specs.PairGrids.{ListOf, zeros}
 use Rattle.delay.specs.DelayTables.{Tables, TablesHold}
 use Rattle.model.specs.Limits.{mostFlows}
-use Rattle.model.specs.Refusals.{noFault, good}
+use Rattle.model.specs.Refusals.{noFault, good, refusedBounds}
 use Rattle.delay.specs.declared.verdicts.AllBounds.{AllBounds}
 use native.Mathlib.Nat.{le-trans, le-of-eq}
 use native.Mathlib.Decide.{decLe}

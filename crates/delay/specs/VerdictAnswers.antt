@@ -6,9 +6,9 @@ use borrow.Author.Tests.{le-leb, lt-leb}
 use Rattle.model.specs.declared.kinds.FlowSet.{FlowSet}
 use Rattle.model.specs.declared.answers.Fault.{Fault}
 use Rattle.model.specs.declared.answers.Refusal.the-variants.{NoSuchFlow}
-use Rattle.model.specs.Refusals.{good, faultAt, noFault}
+use Rattle.model.specs.Refusals.{good, faultAt, noFault, refusedVerdict, refusedBounds}
 use Rattle.document.specs.Reader.{recordFault}
-use Rattle.document.specs.Delay.{verdictIf, verdictOf, boundsFault, boundsIf, boundsOf, refusedBounds, deadline, workAt, basicBound, tightBound, admits}
+use Rattle.document.specs.Delay.{verdictIf, verdictOf, boundsFault, boundsIf, boundsOf, deadline, workAt, basicBound, tightBound, admits}
 use native.Mathlib.Nat.{le-refl}
 use native.Mathlib.Numerals.{add-one}
 use native.Mathlib.Omega.{arith}
@@ -115,15 +115,6 @@ verdict-made s r b t o e p q =
     λ i. record { fault = f i; basic = x i; tightened = y i; rounds = n i } in
     made ∙ sym v
 
-pub verdict-refused : (s : FlowSet) (r : AllBounds) → AllBoundsOf s r → good (recordFault s .refusal) ≡ false
-    → record { fault = r .fault; basic = false; tightened = false; rounds = 0 } ≡ verdictOf s
-verdict-refused s r o e =
-    let v = verdict-bad s e in
-    let f = o .fault ∙ ap (λ (w : Verdict). w .fault) v in
-    let made : record { fault = r .fault; basic = false; tightened = false; rounds = 0 } ≡ verdictIf s false =
-    λ i. record { fault = f i; basic = false; tightened = false; rounds = 0 } in
-    made ∙ sym v
-
 pub bounds-made : (s : FlowSet) (k : ℕ) (f : Fault) (w b t : ℕ) (d : Span) (m : ℤ)
     → f ≡ noFault → w ≡ workAt s k → b ≡ basicBound s k → t ≡ tightBound s k → d ≡ flowAt s k .deadline → m ≡ pos (d .0) -ℤ pos t
     → record { fault = f; work = w; basic = b; tightened = t; deadline = d; margin = m } ≡ boundsIf s k true
@@ -143,6 +134,9 @@ refused-by s r b o h z = sym (fault-entry s r o) ∙ is-refused (r .fault) (r .f
 -- the fault of a bound is that fault, or none
 pub fault-refused : (s : FlowSet) (r : AllBounds) → AllBoundsOf s r → good (recordFault s .refusal) ≡ false → r .fault ≡ recordFault s
 fault-refused s r o e = o .fault ∙ ap (λ (w : Verdict). w .fault) (verdict-bad s e)
+
+pub verdict-refused : (s : FlowSet) (r : AllBounds) → AllBoundsOf s r → good (recordFault s .refusal) ≡ false → refusedVerdict (r .fault) ≡ verdictOf s
+verdict-refused s r o e = ap refusedVerdict (fault-refused s r o e) ∙ sym (verdict-bad s e)
 
 pub fault-given : (s : FlowSet) (r : AllBounds) → AllBoundsOf s r → good (recordFault s .refusal) ≡ true → r .fault ≡ noFault
 fault-given s r o e = o .fault ∙ ap (λ (w : Verdict). w .fault) (verdict-good s e)

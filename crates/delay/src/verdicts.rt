@@ -5,7 +5,7 @@ ghost use lib.IntN.{_-ℤ_, pos};
 ghost use mathlib.Core.Bool.{_&&_, true};
 ghost use lib.ListN.{getD};
 ghost use Rattle.model.specs.Sets.{used};
-ghost use Rattle.document.specs.Delay.{admits, boundsIf, boundsOf, verdictOf, refusedBounds};
+ghost use Rattle.document.specs.Delay.{admits, boundsIf, boundsOf, verdictOf};
 ghost use Rattle.model.specs.Limits.{mostFlows};
 ghost use Rattle.delay.specs.AllBounds.{AllBoundsOf};
 ghost use Rattle.model.specs.Refusals.{good};
@@ -15,7 +15,6 @@ use model::Fault;
 use model::Flow;
 use model::FlowSet;
 use model::Refusal;
-use model::Span;
 use model::Verdict;
 
 // The smaller of a number and the largest signed one.
@@ -73,12 +72,7 @@ pub fn verdict_of(s: FlowSet, all: AllBounds) -> Verdict
 {
     let fault = all.fault;
     if fault.refuses() {
-        return Verdict {
-            fault,
-            basic: false,
-            tightened: false,
-            rounds: 0,
-        };
+        return Verdict::refused(fault);
     }
     let basic = all.basic;
     let tightened = all.tightened;
@@ -87,20 +81,6 @@ pub fn verdict_of(s: FlowSet, all: AllBounds) -> Verdict
         basic: admits(s, basic),
         tightened: admits(s, tightened),
         rounds: all.rounds,
-    }
-}
-
-// A refused bound is zeros throughout.
-fn refused(fault: Fault) -> Bounds
-    ensures { λ r. ⌜ r ≡ refusedBounds fault ⌝ }
-{
-    Bounds {
-        fault,
-        work: 0,
-        basic: 0,
-        tightened: 0,
-        deadline: Span(0),
-        margin: 0,
     }
 }
 
@@ -132,10 +112,10 @@ pub fn bounds_of(s: FlowSet, k: u16, all: AllBounds) -> Bounds
 {
     let fault = all.fault;
     if fault.refuses() {
-        return refused(fault);
+        return Bounds::refused(fault);
     }
     if s.count <= k {
-        return refused(Fault::of(Refusal::NoSuchFlow));
+        return Bounds::refused(Fault::of(Refusal::NoSuchFlow));
     }
     bounds_at(s, k as usize, all)
 }

@@ -1,6 +1,7 @@
 // The methods of the records, and the rules of a line and of a record, each called twice.
 ghost use mathlib.Core.Path.{_≡_};
 use crate::two::TwoBool;
+use crate::two::TwoBounds;
 use crate::two::TwoChannelMap;
 use crate::two::TwoFault;
 use crate::two::TwoFlow;
@@ -12,6 +13,9 @@ use crate::two::TwoSpan;
 use crate::two::TwoState;
 use crate::two::TwoU16;
 use crate::two::TwoU32;
+use crate::two::TwoVerdict;
+use crate::two::TwoWritten;
+use model::Bounds;
 use model::ChannelMap;
 use model::Fault;
 use model::Flow;
@@ -21,6 +25,8 @@ use model::Refusal;
 use model::Slot;
 use model::Span;
 use model::State;
+use model::Verdict;
+use model::Written;
 
 pub fn slot_after(t: Slot, n: Span) -> TwoSlot
     ensures { λ r. ⌜ r .0 ≡ r .1 ⌝ }
@@ -195,6 +201,30 @@ pub fn fault_refuses(fault: Fault) -> TwoBool
     let a = fault.refuses();
     let b = fault.refuses();
     TwoBool(a, b)
+}
+
+pub fn verdict_refused(fault: Fault) -> TwoVerdict
+    ensures { λ r. ⌜ r .0 ≡ r .1 ⌝ }
+{
+    let a = Verdict::refused(fault);
+    let b = Verdict::refused(fault);
+    TwoVerdict(a, b)
+}
+
+pub fn bounds_refused(fault: Fault) -> TwoBounds
+    ensures { λ r. ⌜ r .0 ≡ r .1 ⌝ }
+{
+    let a = Bounds::refused(fault);
+    let b = Bounds::refused(fault);
+    TwoBounds(a, b)
+}
+
+pub fn written_refused(fault: Fault) -> TwoWritten
+    ensures { λ r. ⌜ r .0 ≡ r .1 ⌝ }
+{
+    let a = Written::refused(fault);
+    let b = Written::refused(fault);
+    TwoWritten(a, b)
 }
 
 pub fn span_slots(d: Span) -> TwoU16

@@ -8,7 +8,7 @@ use Prim.Native.Nat.{ℕ, zero, suc, _+_, _-_, _*_, _/_, _%_, _≤_, _<_, min}
 use lib.{Count.{ones}, Dec.{leb, eqb}, IntN.{pos, _-ℤ_}, ListN.{length, getD, take, drop, set}}
 use Rattle.model.specs.declared.kinds.{Flow.{Flow}, FlowSet.{FlowSet}}
 use Rattle.model.specs.declared.answers.{Fault.{Fault}, Verdict.{Verdict}, Bounds.{Bounds}, Refusal.the-variants.{NoSuchFlow}}
-use Rattle.model.specs.{Refusals.{good, faultAt, noFault, orElse}, Sums.{bit, sumTo, allTo}, Sets.{links, work, flowAt, listTo, meet}}
+use Rattle.model.specs.{Refusals.{good, faultAt, noFault, orElse, refusedVerdict, refusedBounds}, Sums.{bit, sumTo, allTo}, Sets.{links, work, flowAt, listTo, meet}}
 use Rattle.document.specs.Reader.{recordFault}
 use Rattle.document.specs.Text.{same}
 
@@ -137,13 +137,6 @@ tightBound s k = valueAt s (reached s .list) k
 -- a test admits when every bound is at most its deadline
 unfoldable pub admits : FlowSet → (ℕ → ℕ) → Bool
 admits s bound = allTo (λ k. leb (bound k) (deadline s k)) (s .count)
-
--- a refused bound or verdict gives zeros and "no"
-abbrev pub refusedVerdict : Fault → Verdict
-refusedVerdict f = record { fault = f; basic = false; tightened = false; rounds = 0 }
-
-abbrev pub refusedBounds : Fault → Bounds
-refusedBounds f = record { fault = f; work = 0; basic = 0; tightened = 0; deadline = record { 0 = 0 }; margin = pos 0 }
 
 -- the verdicts of a set
 abbrev pub verdictIf : FlowSet → Bool → Verdict

@@ -7,8 +7,8 @@ use Rattle.model.specs.declared.kinds.FlowSet.{FlowSet}
 use Rattle.model.specs.declared.answers.{Fault.{Fault}, Refusal.the-variants.{NoRoom}}
 use Rattle.model.specs.declared.answers.{Reading.{Reading}, Verdict.{Verdict}, Bounds.{Bounds}, Written.{Written}}
 use Rattle.model.specs.declared.answers.{VerdictAnswer.{VerdictAnswer}, BoundsAnswer.{BoundsAnswer}, SlotAnswer.{SlotAnswer}, TableAnswer.{TableAnswer}}
-use Rattle.model.specs.{Refusals.{good, refusalNumber, faultAt, noFault, orElse}, Sums.{bit}, Sets.{used}}
-use Rattle.document.specs.{Reader.{readText}, Delay.{refusedVerdict, refusedBounds, verdictOf, boundsOf}, Program.{slotLines, slotFault}}
+use Rattle.model.specs.{Refusals.{good, refusalNumber, faultAt, noFault, orElse, refusedVerdict, refusedBounds}, Sums.{bit}, Sets.{used}}
+use Rattle.document.specs.{Reader.{readText}, Delay.{verdictOf, boundsOf}, Program.{slotLines, slotFault}}
 
 -- the numbers of an answer: the refusal by its number, a test as 1 or 0
 abbrev pub verdictNumbers : Verdict → VerdictAnswer

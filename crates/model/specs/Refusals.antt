@@ -1,8 +1,8 @@
 -- Document 01, "Refusal numbers".
-use mathlib.Core.{Bool.{Bool, cond}, List.{List, [], _∷_}}
+use mathlib.Core.{Bool.{Bool, false, cond}, List.{List, [], _∷_}}
 use Prim.Native.Nat.{ℕ}
-use lib.Dec.{eqb}
-use Rattle.model.specs.declared.answers.{Fault.{Fault}, NumberRead.{NumberRead}, Refusal.{Refusal}}
+use lib.{Dec.{eqb}, IntN.{pos}}
+use Rattle.model.specs.declared.answers.{Bounds.{Bounds}, Fault.{Fault}, NumberRead.{NumberRead}, Refusal.{Refusal}, Verdict.{Verdict}}
 use Rattle.model.specs.declared.answers.NumberRead.the-variants.{Value, Refused}
 use Rattle.model.specs.declared.answers.Refusal.the-variants.{Nothing, BadForm, NoChannel, TooManyFlows, BadPeriod, BadDeadline, BadTries, BadRoute, NodeTwice, TooMuchWork, NoRoom, AtLastSlot, BadState, NoSuchFlow}
 
@@ -42,3 +42,10 @@ noFault = faultAt Nothing 0
 -- the refusal, if it is one, before what comes later
 abbrev pub orElse : Fault → Fault → Fault
 orElse f g = cond (good (f .refusal)) g f
+
+-- a refused bound or verdict gives zeros and "no"
+abbrev pub refusedVerdict : Fault → Verdict
+refusedVerdict f = record { fault = f; basic = false; tightened = false; rounds = 0 }
+
+abbrev pub refusedBounds : Fault → Bounds
+refusedBounds f = record { fault = f; work = 0; basic = 0; tightened = 0; deadline = record { 0 = 0 }; margin = pos 0 }

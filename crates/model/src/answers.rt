@@ -2,7 +2,7 @@
 ghost use mathlib.Core.Bool.{not};
 ghost use mathlib.Core.Path.{_≡_};
 ghost use Prim.Native.Nat.{_≤_};
-ghost use Rattle.model.specs.Refusals.{refusalNumber, good, faultAt, noFault};
+ghost use Rattle.model.specs.Refusals.{refusalNumber, good, faultAt, noFault, refusedVerdict, refusedBounds};
 ghost use Rattle.model.specs.Sums.{bit};
 use crate::kinds::ChannelMap;
 use crate::kinds::Flow;
@@ -104,11 +104,34 @@ pub struct Written {
     pub length: usize,
 }
 
+impl Written {
+    // A refusal, nothing written.
+    pub fn refused(fault: Fault) -> Written
+        ensures { λ r. ⌜ r ≡ record { fault = fault; length = 0 } ⌝ }
+    {
+        Written { fault, length: 0 }
+    }
+}
+
 pub struct Verdict {
     pub fault: Fault,
     pub basic: bool,
     pub tightened: bool,
     pub rounds: u32,
+}
+
+impl Verdict {
+    // A refusal, neither test passed, no rounds.
+    pub fn refused(fault: Fault) -> Verdict
+        ensures { λ r. ⌜ r ≡ refusedVerdict fault ⌝ }
+    {
+        Verdict {
+            fault,
+            basic: false,
+            tightened: false,
+            rounds: 0,
+        }
+    }
 }
 
 // One flow's bounds. `work` is C.
@@ -119,6 +142,22 @@ pub struct Bounds {
     pub tightened: u32,
     pub deadline: Span,
     pub margin: i32,
+}
+
+impl Bounds {
+    // A refusal, every number 0.
+    pub fn refused(fault: Fault) -> Bounds
+        ensures { λ r. ⌜ r ≡ refusedBounds fault ⌝ }
+    {
+        Bounds {
+            fault,
+            work: 0,
+            basic: 0,
+            tightened: 0,
+            deadline: Span(0),
+            margin: 0,
+        }
+    }
 }
 
 // One transmission: in `slot`, over the link `from` to `to`.

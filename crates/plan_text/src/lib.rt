@@ -54,10 +54,7 @@ pub fn plan(input: &[u8], out: &mut [u8]) -> Written
     let mut text = [0u8; MOST_PLAN];
     let n = put_text(&mut text, input);
     if out.len() < n {
-        return Written {
-            fault: Fault::of(Refusal::NoRoom),
-            length: 0,
-        };
+        return Written::refused(Fault::of(Refusal::NoRoom));
     }
     text::put_word(out, 0, &text[..n]);
     Written {

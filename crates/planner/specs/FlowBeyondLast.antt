@@ -8,9 +8,9 @@ use lib.Dec.{ltb}
 use Rattle.model.specs.declared.kinds.FlowSet.{FlowSet}
 use Rattle.model.specs.declared.answers.Fault.{Fault}
 use Rattle.model.specs.declared.answers.Refusal.the-variants.{NoSuchFlow}
-use Rattle.model.specs.Refusals.{good, orElse, faultAt}
+use Rattle.model.specs.Refusals.{good, orElse, faultAt, refusedBounds}
 use Rattle.model.specs.Sets.{used}
-use Rattle.document.specs.Delay.{boundsOf, boundsFault, boundsIf, refusedBounds}
+use Rattle.document.specs.Delay.{boundsOf, boundsFault, boundsIf}
 use Rattle.document.specs.Reader.{recordFault}
 use Rattle.laws.specs.Used.{used-count}
 

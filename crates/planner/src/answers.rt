@@ -2,15 +2,11 @@
 ghost use mathlib.Core.Path.{_≡_};
 ghost use mathlib.Core.Bool.{cond};
 ghost use lib.Dec.{ltb};
-ghost use Rattle.document.specs.Delay.{refusedBounds, refusedVerdict};
-ghost use Rattle.document.specs.Reader.{refusedWriting};
 ghost use Rattle.document.specs.ForC.{boundsNumbers, boundsOfReading, slotNumbers, tableNumbers, verdictNumbers, verdictOfReading};
 use model::Bounds;
 use model::BoundsAnswer;
-use model::Fault;
 use model::Reading;
 use model::SlotAnswer;
-use model::Span;
 use model::TableAnswer;
 use model::Verdict;
 use model::VerdictAnswer;
@@ -28,49 +24,16 @@ fn flow_number(flow: u32, count: u16) -> u16
     }
 }
 
-// A refusal, neither test passed, no rounds.
-fn refused_verdict(fault: Fault) -> Verdict
-    ensures { λ r. ⌜ r ≡ refusedVerdict fault ⌝ }
-{
-    Verdict {
-        fault,
-        basic: false,
-        tightened: false,
-        rounds: 0,
-    }
-}
-
 // Both verdicts of the set that was read, or the reader's refusal.
 pub fn verdict_of_reading(reading: Reading) -> Verdict
     ensures { λ r. ⌜ r ≡ verdictOfReading reading ⌝ }
 {
     let fault = reading.fault;
     if fault.refuses() {
-        return refused_verdict(fault);
+        return Verdict::refused(fault);
     }
     let set = reading.set;
     delay::verdict(set)
-}
-
-// A refusal, every number 0.
-fn refused_bounds(fault: Fault) -> Bounds
-    ensures { λ r. ⌜ r ≡ refusedBounds fault ⌝ }
-{
-    Bounds {
-        fault,
-        work: 0,
-        basic: 0,
-        tightened: 0,
-        deadline: Span(0),
-        margin: 0,
-    }
-}
-
-// A refusal, nothing written.
-pub fn refused_writing(fault: Fault) -> Written
-    ensures { λ r. ⌜ r ≡ refusedWriting fault ⌝ }
-{
-    Written { fault, length: 0 }
 }
 
 // The bounds of one flow of the set that was read, or the reader's refusal.
@@ -79,7 +42,7 @@ pub fn bounds_of_reading(reading: Reading, flow: u32) -> Bounds
 {
     let fault = reading.fault;
     if fault.refuses() {
-        return refused_bounds(fault);
+        return Bounds::refused(fault);
     }
     let set = reading.set;
     delay::bounds(set, flow_number(flow, set.count))

@@ -7,7 +7,6 @@ ghost use Rattle.document.specs.ForC.{slotAnswer};
 ghost use Rattle.text.specs.Put.{Put};
 ghost use Rattle.planner.specs.BeforeStep.{PassesIfRead, faultBeforeStep, lengthFault};
 ghost use Rattle.planner.specs.StepWritten.{stepAnswer, stepBuffer, stepState};
-use crate::answers::refused_writing;
 use crate::state_bytes;
 use crate::state_bytes::put_state;
 use crate::state_bytes::state_of;
@@ -67,12 +66,12 @@ fn write_step(state: &mut [u8], lines: &mut [u8], stepped: Stepped) -> Written
 {
     let fault = stepped.fault;
     if fault.refuses() {
-        return refused_writing(fault);
+        return Written::refused(fault);
     }
     let sent = stepped.sent;
     let n = lines_length(sent, stepped.sends);
     if lines.len() < n {
-        return refused_writing(Fault::of(Refusal::NoRoom));
+        return Written::refused(Fault::of(Refusal::NoRoom));
     }
     let next = stepped.next;
     put_state(state, next);
@@ -93,7 +92,7 @@ pub fn slot_of_reading(reading: Reading, state: &mut [u8], lines: &mut [u8]) -> 
 {
     let fault = fault_before_step(reading.fault, state.len());
     if fault.refuses() {
-        return refused_writing(fault);
+        return Written::refused(fault);
     }
     let set = reading.set;
     let st = state_of(state);

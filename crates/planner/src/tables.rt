@@ -6,7 +6,6 @@ ghost use lib.ListN.{drop, length, take};
 ghost use Rattle.model.specs.Sets.{used};
 ghost use Rattle.document.specs.ForC.{boundsRow, boundsRows, tableAfter, tableAnswer};
 ghost use Rattle.delay.specs.AllBounds.{AllBoundsOf};
-use crate::answers::refused_writing;
 use delay::AllBounds;
 use model::Bounds;
 use model::Fault;
@@ -60,12 +59,12 @@ pub fn table_of_reading(reading: Reading, table: &mut [u32]) -> Written
 {
     let fault = reading.fault;
     if fault.refuses() {
-        return refused_writing(fault);
+        return Written::refused(fault);
     }
     let set = reading.set;
     let n = ROW * (set.count as usize);
     if table.len() < n {
-        return refused_writing(Fault::of(Refusal::NoRoom));
+        return Written::refused(Fault::of(Refusal::NoRoom));
     }
     let all = delay::all_bounds(set);
     put_rows(table, set, all);

@@ -143,8 +143,7 @@ fn write_text(s: FlowSet, out: &mut [u8]) -> Written
         let fault = Fault::none();
         return Written { fault, length };
     }
-    let fault = Fault::of(Refusal::NoRoom);
-    Written { fault, length: 0 }
+    Written::refused(Fault::of(Refusal::NoRoom))
 }
 
 // Writes a set's text into the buffer, unless the record check or the room refuses it. The text of a record that passes the check,
@@ -156,7 +155,7 @@ pub fn write(s: FlowSet, out: &mut [u8]) -> Written
 {
     let fault = rules::record_fault(s);
     if fault.refuses() {
-        return Written { fault, length: 0 };
+        return Written::refused(fault);
     }
     write_text(s, out)
 }

@@ -16,10 +16,10 @@ zeros = length-replicate {A = ℕ} mostPlan 0
 
 returns : tie.Need-returns
 returns c =
-    let p = c .before .before .before in
+    let p = c .before .before .before .before in
     let a = p .before .before .before .before .args in
-    let w = no-room (a .input .now) (p .put-text .ensures) zeros (a .out .now) (c .before .if1 .taken) in
-    (ap refusedWriting (c .of .ensures) ∙ w .0, w .1)
+    let w = no-room (a .input .now) (p .put-text .ensures) zeros (a .out .now) (c .before .before .if1 .taken) in
+    (c .refused .ensures ∙ ap refusedWriting (c .before .of .ensures) ∙ w .0, w .1)
 
 array-share-prefix-text : tie.Need-array-share-prefix-text
 array-share-prefix-text c =
@@ -48,6 +48,7 @@ plan-spec =
     tie.close
     (tie.spec
     (λ c. search needs)
+    (λ c κs. tt)
     (λ c κs. tt)
     (λ c κs. tt)
     returns

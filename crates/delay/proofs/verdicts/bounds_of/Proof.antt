@@ -1,10 +1,9 @@
 -- `bounds_of`: the record's refusal first, then 13, then the bounds. Assumes nothing beyond its `requires`.
 use mathlib.Core.Path.{_≡_, ap, _∙_}
 use mathlib.Core.Bool.{true}
-use Rattle.model.specs.Refusals.{good}
+use Rattle.model.specs.Refusals.{good, refusedBounds}
 use Rattle.document.specs.Reader.{recordFault}
 use Rattle.model.specs.Sets.{used}
-use Rattle.document.specs.Delay.{refusedBounds}
 use Rattle.delay.specs.VerdictAnswers.{bounds-refused, bounds-none, bounds-given, passed-by, refused-by, fault-refused}
 use borrow.Author.Needs.{needs}
 use Rattle.delay.proofs.verdicts.bounds_of.Statement.{statement}

@@ -1,5 +1,5 @@
 -- `verdict_of`: the bounds of all flows are compared with the deadlines. Assumes nothing beyond its `requires`.
-use mathlib.Core.Path.{_≡_}
+use mathlib.Core.Path.{_≡_, _∙_}
 use mathlib.Core.Bool.{true}
 use Rattle.model.specs.Refusals.{good}
 use Rattle.document.specs.Reader.{recordFault}
@@ -16,8 +16,9 @@ passed c = let b = c .before .before .before in passed-by _ (b .args .all) _ (b 
 
 returns : tie.Need-returns
 returns c =
-    let b = c .before .before .before in
-    verdict-refused _ (b .args .all) (b .pre) (refused-by _ (b .args .all) _ (b .pre) (c .before .refuses .ensures) (c .if1 .taken))
+    let b = c .before .before .before .before in
+    let e = refused-by _ (b .args .all) _ (b .pre) (c .before .before .refuses .ensures) (c .before .if1 .taken) in
+    c .refused .ensures ∙ verdict-refused _ (b .args .all) (b .pre) e
 
 admits-requires : tie.Need-admits-requires
 unfolding used
@@ -38,6 +39,7 @@ pub verdict-of-spec : {M : Type 1} → statement M
 verdict-of-spec =
     tie.close
     (tie.spec
+    (λ c κs. search needs)
     (λ c κs. search needs)
     returns
     admits-requires

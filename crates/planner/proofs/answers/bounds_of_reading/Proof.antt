@@ -14,7 +14,7 @@ unfolding boundsOfReading
 returns c =
     let tested = c .before .before in
     let f = tested .before .before .args .reading .fault in
-    rw (refuses f (tested .refuses .ensures) (c .before .if1 .taken)) (c .refused-bounds .ensures)
+    rw (refuses f (tested .refuses .ensures) (c .before .if1 .taken)) (c .refused .ensures)
 
 returns-2 : tie.Need-returns-2
 unfolding boundsOfReading

@@ -10,7 +10,7 @@ unfolding verdictOfReading
 returns c =
     let tested = c .before .before in
     let f = tested .before .before .args .reading .fault in
-    rw (refuses f (tested .refuses .ensures) (c .before .if1 .taken)) (c .refused-verdict .ensures)
+    rw (refuses f (tested .refuses .ensures) (c .before .if1 .taken)) (c .refused .ensures)
 
 returns-2 : tie.Need-returns-2
 unfolding verdictOfReading

@@ -17,7 +17,7 @@ returns c =
     let f = b .fault-before-step .result in
     let g = refuses f (c .before .before .refuses .ensures) (c .before .if1 .taken) in
     let w = answered-before (a .reading) (a .state .now) (a .lines .now) f (b .fault-before-step .ensures) g in
-    (c .refused-writing .ensures ∙ w .0, w .1)
+    (c .refused .ensures ∙ w .0, w .1)
 
 -- nothing is refused before the step
 passed-before : (l : tie.Else1)

@@ -17,7 +17,7 @@ returns c =
     let a = c .before .before .before .before .before .before .args in
     let g = refuses (a .stepped .fault) (c .before .before .refuses .ensures) (c .before .if1 .taken) in
     let w = left-refused (a .stepped) (a .state .now) (a .lines .now) g in
-    (c .refused-writing .ensures ∙ w .0, (w .1 .0, rw (← w .1 .1)))
+    (c .refused .ensures ∙ w .0, (w .1 .0, rw (← w .1 .1)))
 
 returns-2 : tie.Need-returns-2
 returns-2 c =
@@ -26,7 +26,7 @@ returns-2 c =
     let a = d .before .before .before .before .args in
     let g = accepts (a .stepped .fault) (d .refuses .ensures) (l .before .before .if1 .left) in
     let w = left-no-room (a .stepped) (a .state .now) (a .lines .now) g (omega (arith, l .lines-length .ensures)) in
-    (c .refused-writing2 .ensures ∙ ap refusedWriting (c .before .of .ensures) ∙ w .0, (w .1 .0, rw (← w .1 .1)))
+    (c .refused2 .ensures ∙ ap refusedWriting (c .before .of .ensures) ∙ w .0, (w .1 .0, rw (← w .1 .1)))
 
 returns-3 : tie.Need-returns-3
 returns-3 c =

@@ -16,7 +16,7 @@ returns c =
     let a = tested .before .before .before .args in
     let g = refuses (a .reading .fault) (tested .refuses .ensures) (c .before .if1 .taken) in
     let w = table-refused (a .reading) (a .table .now) g in
-    (c .refused-writing .ensures ∙ w .0, w .1)
+    (c .refused .ensures ∙ w .0, w .1)
 
 returns-2 : tie.Need-returns-2
 returns-2 c =
@@ -25,7 +25,7 @@ returns-2 c =
     let a = read .before .before .before .before .args in
     let g = accepts (a .reading .fault) (read .before .refuses .ensures) (read .if1 .left) in
     let w = table-no-room (a .reading) (a .table .now) g (short .if2 .taken) in
-    (c .refused-writing2 .ensures ∙ ap refusedWriting (c .before .of .ensures) ∙ w .0, w .1)
+    (c .refused2 .ensures ∙ ap refusedWriting (c .before .of .ensures) ∙ w .0, w .1)
 
 returns-3 : tie.Need-returns-3
 returns-3 c =

@@ -13,10 +13,10 @@ use Rattle.text.proofs.writer.write.Tie as tie
 
 returns : tie.Need-returns
 returns c =
-    let o = c .before .before .before .before in
-    let y = not-true _ (sym (c .before .refuses .ensures) ∙ c .if1 .taken) in
-    let a = write-refused _ _ _ (c .before .before .record-fault .ensures) y in
-    (a .answer, (a .bytes, read-again (o .args .s) (set-held (o .args .s) _ (o .good .0))))
+    let o = c .before .before .before .before .before in
+    let y = not-true _ (sym (c .before .before .refuses .ensures) ∙ c .before .if1 .taken) in
+    let a = write-refused _ _ _ (c .before .before .before .record-fault .ensures) y in
+    (c .refused .ensures ∙ a .answer, (a .bytes, read-again (o .args .s) (set-held (o .args .s) _ (o .good .0))))
 
 write-text-requires : tie.Need-write-text-requires
 write-text-requires c κs =
@@ -38,4 +38,4 @@ returns-2 c =
 pub write-spec : {M : Type 1} → statement M
 write-spec =
     tie.close
-    (tie.spec (λ c κs. search needs) (λ c κs. search needs) returns write-text-requires (λ c. search needs) returns-2)
+    (tie.spec (λ c κs. search needs) (λ c κs. search needs) (λ c κs. search needs) returns write-text-requires (λ c. search needs) returns-2)

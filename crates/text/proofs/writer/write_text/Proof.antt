@@ -1,4 +1,5 @@
 -- `write_text` asks for the room, and writes only where there is enough. Assumes nothing beyond its `requires`.
+use mathlib.Core.Path.{_∙_}
 use native.Mathlib.Omega.{arith}
 use Rattle.text.specs.WriteRoom.{room-short, room-enough}
 use borrow.Author.Needs.{needs}
@@ -15,10 +16,10 @@ returns c =
 
 returns-2 : tie.Need-returns-2
 returns-2 c =
-    let j = c .before in
+    let j = c .before .before in
     let r = j .before .before .before .has-room .ensures in
-    let a = room-short _ _ _ (r .0) _ (r .1) (j .if1 .left) _ (c .of .ensures) in
-    (a .answer, a .bytes)
+    let a = room-short _ _ _ (r .0) _ (r .1) (j .if1 .left) _ (c .before .of .ensures) in
+    (c .refused .ensures ∙ a .answer, a .bytes)
 
 pub write-text-spec : {M : Type 1} → statement M
 write-text-spec =
@@ -29,6 +30,7 @@ write-text-spec =
     (λ c κs. search needs)
     (λ c. search needs)
     returns
+    (λ c κs. search needs)
     (λ c κs. search needs)
     (λ c. search needs)
     returns-2)
