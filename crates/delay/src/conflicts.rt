@@ -21,8 +21,9 @@ const KINDS: usize = 512;
 // The routes of all flows.
 type Routes = [[u16; Flow::MOST_NODES]; Flow::MOST];
 
-// A 16-bit number as an index.
-fn wide(x: u16) -> usize
+// An entry of a lent table as an index, with the limit that its width sets. It is a function because the prover knows the width of a parameter
+// that is cast, and not that of an entry of a lent array.
+fn table_entry(x: u16) -> usize
     ensures { λ r. ⌜ (r ≡ x) × (r ≤ 65535) ⌝ }
 {
     x as usize
@@ -41,7 +42,7 @@ fn search_from(places: &[u16; KINDS], node: u16) -> usize
     ensures { λ r. ⌜ r ≡ getD (now (places .entry)) (kindOf node) 0 ⌝ }
 {
     let at = kind(node);
-    wide(places[at])
+    table_entry(places[at])
 }
 
 // The table of the places of a route's first n nodes: for each kind of node the first place at which one stands.
@@ -152,11 +153,11 @@ fn conflict_row(
     ensures { λ r. ⌜ RowDone (listedWork (now (routes .entry)) (now (links .entry)) (now (tries .entry)) k) n k (now (t .entry)) (now (t .exit)) ⌝ }
 {
     let mine = routes[k];
-    let nodes = wide(links[k]) + 1;
+    let nodes = table_entry(links[k]) + 1;
     let places = first_places(nodes, &mine);
     let mut l: usize = 0;
     while l < n {
-        let touched = links_touched(nodes, &mine, wide(links[l]), routes, l, &places);
+        let touched = links_touched(nodes, &mine, table_entry(links[l]), routes, l, &places);
         t[k * Flow::MOST + l] = shares::times(tries[l], touched) as u16;
         l += 1;
     }

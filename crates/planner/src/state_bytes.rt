@@ -29,8 +29,9 @@ fn slot_bytes(t: u32) -> SlotBytes
     [lowest, low, high, highest]
 }
 
-// A byte with the bound that it has by its width.
-fn wide(b: u8) -> u32
+// A byte of a state, with the limit that its width sets. It is a function because the prover knows the width of a parameter that is cast,
+// and not that of an entry of a lent array.
+fn state_byte(b: u8) -> u32
     ensures { λ r. ⌜ (r ≡ b) × (r < 256) ⌝ }
 {
     b as u32
@@ -41,7 +42,10 @@ fn slot_of(b: &[u8]) -> u32
     requires { ⌜ length (now b) ≡ stateLength ⌝ }
     ensures { λ r. ⌜ r ≡ slotOf (now (b .entry)) ⌝ }
 {
-    wide(b[0]) + wide(b[1]) * 256 + wide(b[2]) * 65536 + wide(b[3]) * 16777216
+    state_byte(b[0])
+        + state_byte(b[1]) * 256
+        + state_byte(b[2]) * 65536
+        + state_byte(b[3]) * 16777216
 }
 
 // The counts after the first four bytes.

@@ -42,13 +42,15 @@ pub record HeldRecord (s : FlowSet) : Type 0 where
   pub map-fits : s .map .0 ≤ 65535
   pub flow-is : (k : ℕ) → k < mostFlows → HeldFlow (flowAt s k)
 
--- a flow that the code holds
+-- a flow that the code holds, and each node of it
+pub node-held : (f : Flow) (u : List Val) → shadow (flow.the-row .own f u) → (j : ℕ) → Fits w16 (getD (f .route) j 0)
+node-held f u g j = search needs
+
 flow-held : (f : Flow) (u : List Val) → shadow (flow.the-row .own f u) → HeldFlow f
 flow-held f u g =
-    let n : (j : ℕ) → Fits w16 (getD (f .route) j 0) = λ j. search needs in
     record {
       route-is = search needs;
-      numbers-fit = numbers-small f (omega arith) (omega arith) (omega arith) (omega arith) (λ j. omega (arith, n j .fits));
+      numbers-fit = numbers-small f (omega arith) (omega arith) (omega arith) (omega arith) (λ j. omega (arith, node-held f u g j .fits));
     }
 
 -- each flow of an array

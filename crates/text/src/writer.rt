@@ -23,13 +23,6 @@ use model::Written;
 // The bytes of the longest text of a set that passes the record check.
 const LONGEST: usize = 8138;
 
-// A 16-bit number as a wider one.
-fn wide(n: u16) -> u32
-    ensures { λ r. ⌜ r ≡ n ⌝ }
-{
-    n as u32
-}
-
 pub type Numbers = [u32; 4 + Flow::MOST_NODES];
 
 // A flow's numbers in the order of its line, all the nodes of its array among them.
@@ -38,13 +31,13 @@ pub fn flow_numbers(f: Flow) -> Numbers
 {
     let route = f.route;
     let mut numbers = [0u32; 4 + Flow::MOST_NODES];
-    numbers[0] = wide(f.period.0);
-    numbers[1] = wide(f.deadline.0);
-    numbers[2] = wide(f.start);
-    numbers[3] = wide(f.tries);
+    numbers[0] = f.period.0 as u32;
+    numbers[1] = f.deadline.0 as u32;
+    numbers[2] = f.start as u32;
+    numbers[3] = f.tries as u32;
     let mut i = 0usize;
     while i < Flow::MOST_NODES {
-        numbers[4 + i] = wide(route[i]);
+        numbers[4 + i] = route[i] as u32;
         i += 1;
     }
     numbers

@@ -21,7 +21,7 @@ abbrev μ-loop : tie.MeasureT-loop
 first-places-requires : tie.Need-first-places-requires Inv-loop μ-loop
 first-places-requires c κs =
     let b = c .before .before .before .before in
-    omega (arith, c .before .wide .ensures .0, b .pre .2 .links-le (b .args .k) (b .pre .0))
+    omega (arith, c .before .table-entry .ensures .0, b .pre .2 .links-le (b .args .k) (b .pre .0))
 
 loop-holds : tie.Need-loop-holds Inv-loop μ-loop
 loop-holds c =
@@ -35,9 +35,9 @@ links-touched-requires c κs =
     let b = f .before .before .before .before .before in
     let h : w .loop .l < b .args .n = search needs in
     let o = b .pre .2 in (
-      omega (arith, f .before .before .wide .ensures .0, o .links-le (b .args .k) (b .pre .0)),
+      omega (arith, f .before .before .table-entry .ensures .0, o .links-le (b .args .k) (b .pre .0)),
       omega (arith, o .few),
-      omega (arith, c .before .wide2 .ensures .0, o .links-le (w .loop .l) h),
+      omega (arith, c .before .table-entry2 .ensures .0, o .links-le (w .loop .l) h),
       o .long (b .args .k) (b .pre .0),
       f .first-places .ensures,
     )
@@ -65,8 +65,8 @@ loop-again c =
     let t = c .before .before in
     let w = t .before .before .before .before .before .before in
     let b = w .before .before .before .before .before .before in
-    let k = w .before .before .before .wide .ensures .0 in
-    let l = t .before .before .wide2 .ensures .0 in
+    let k = w .before .before .before .table-entry .ensures .0 in
+    let l = t .before .before .table-entry2 .ensures .0 in
     let s = ap (λ (x : ℕ). getD (b .args .tries .now) (w .loop .l) 0 * x) (rw (l, k) at (t .links-touched .ensures .0)) in
     (search needs, search needs, row-next _ (w .loop .l) (b .args .k) _ _ _ (omega arith) (omega arith) (w .loop .inv .2) (c .times .ensures .0 ∙ s))
 

@@ -4,7 +4,7 @@ use Rattle.delay.proofs.conflicts.search_from.Statement.{statement}
 use Rattle.delay.proofs.conflicts.search_from.Tie as tie
 
 returns : tie.Need-returns
-returns c = rw (c .before .before .kind .ensures .0) at (c .wide .ensures .0)
+returns c = rw (c .before .before .kind .ensures .0) at (c .table-entry .ensures .0)
 
 pub search-from-spec : {M : Type 1} → statement M
 search-from-spec =
