@@ -1,3 +1,4 @@
+pub mod Loops
 pub mod SumLaws
 pub mod Members
 pub mod RadioChannels

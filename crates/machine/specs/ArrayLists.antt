@@ -54,10 +54,6 @@ through-stay f n old new e t =
 pub through-all : (f : ℕ → ℕ) (n m : ℕ) (old new : List ℕ) → n ≡ m → Through f n old new → Through f m old new
 through-all f n m old new e t = rw (← e) t
 
--- a loop that has come to the last of the entries is through
-pub through-done : (f : ℕ → ℕ) (n m : ℕ) (old new : List ℕ) → n ≤ m → m ≤ n → Through f n old new → Through f m old new
-through-done f n m old new h l t = through-all f n m old new (omega arith) t
-
 -- an array that holds a list's entries and then blank ones
 take-replicate {ℓ} : {A : Type ℓ} (j n : ℕ) (d : A) → j ≤ n → take j (replicate n d) ≡ replicate j d
 take-replicate zero n d h = refl

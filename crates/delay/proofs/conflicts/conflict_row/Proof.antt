@@ -1,5 +1,5 @@
 -- `conflict_row`: the row's first l places hold S, and all else is as it was. Assumes nothing beyond its `requires`.
-use mathlib.Core.Path.{_≡_, ap, _∙_}
+use mathlib.Core.Path.{ap, _∙_}
 use Prim.Native.Nat.{ℕ, _*_, _-_, _≤_, _<_}
 use lib.ListN.{getD}
 use native.Mathlib.Nat.{lt-of-le-of-lt, le-trans, le-of-eq, mul-le-mul}
@@ -8,12 +8,14 @@ use lib.Dec.{lit<}
 use Rattle.delay.specs.PairGrids.{RowDone, row-start, row-next}
 use Rattle.delay.specs.RouteLists.{listedWork}
 use Rattle.model.specs.Limits.{mostFlows}
+use Rattle.laws.specs.Loops.{SoFar, begins, goes-on, ends}
 use borrow.Author.Needs.{needs}
 use Rattle.delay.proofs.conflicts.conflict_row.Statement.{statement}
 use Rattle.delay.proofs.conflicts.conflict_row.Tie as tie
 
 abbrev Inv-loop : tie.InvT-loop
-Inv-loop n k routes links tries t₀ mine nodes places l₀ t l = (l ≤ n) × (n ≤ mostFlows) × RowDone (listedWork routes links tries k) l k t₀ t
+Inv-loop n k routes links tries t₀ mine nodes places l₀ t l =
+    SoFar n (λ i. (n ≤ mostFlows) × RowDone (listedWork routes links tries k) i k t₀ t) l
 
 abbrev μ-loop : tie.MeasureT-loop
 μ-loop n k routes links tries t₀ mine nodes places l₀ t l = n - l
@@ -26,7 +28,7 @@ first-places-requires c κs =
 loop-holds : tie.Need-loop-holds Inv-loop μ-loop
 loop-holds c =
     let p = c .before .before .before .before .before .pre in
-    (search needs, p .2 .few, row-start _ _ _ (p .1))
+    begins (p .2 .few, row-start _ _ _ (p .1))
 
 links-touched-requires : tie.Need-links-touched-requires Inv-loop μ-loop
 links-touched-requires c κs =
@@ -68,13 +70,8 @@ loop-again c =
     let k = w .before .before .before .table-entry .ensures .0 in
     let l = t .before .before .table-entry2 .ensures .0 in
     let s = ap (λ (x : ℕ). getD (b .args .tries .now) (w .loop .l) 0 * x) (rw (l, k) at (t .links-touched .ensures .0)) in
-    (search needs, search needs, row-next _ (w .loop .l) (b .args .k) _ _ _ (omega arith) (omega arith) (w .loop .inv .2) (c .times .ensures .0 ∙ s))
-
-returns : tie.Need-returns Inv-loop μ-loop
-returns c =
-    let w = c .before in
-    let e : w .loop .l ≡ w .before .before .before .before .before .before .args .n = omega arith in
-    rw e at (w .loop .inv .2)
+    let d = row-next _ _ (b .args .k) _ _ _ (omega arith) (omega arith) (w .loop .inv .holds .1) (c .times .ensures .0 ∙ s) in
+    goes-on (search needs) (w .loop .inv .holds .0, d)
 
 pub conflict-row-spec : {M : Type 1} → statement M
 conflict-row-spec =
@@ -105,4 +102,4 @@ conflict-row-spec =
     (λ c. search needs)
     (λ c. search needs)
     loop-again
-    returns)
+    (λ c. ends (c .before .loop .inv) (c .loop-test .left) .1))

@@ -1,37 +1,27 @@
 -- `conflict_rows`: the first k rows hold S. Assumes nothing beyond its `requires`.
-use mathlib.Core.Path.{_≡_}
-use Prim.Native.Nat.{_-_, _≤_}
-use native.Mathlib.Omega.{arith}
+use Prim.Native.Nat.{_-_}
 use Rattle.delay.specs.PairGrids.{RowsTo, rows-next}
 use Rattle.delay.specs.RouteLists.{listedWork}
+use Rattle.laws.specs.Loops.{SoFar, begins, goes-on, ends}
 use borrow.Author.Needs.{needs}
 use Rattle.delay.proofs.conflicts.conflict_rows.Statement.{statement}
 use Rattle.delay.proofs.conflicts.conflict_rows.Tie as tie
 
 abbrev Inv-loop : tie.InvT-loop
-Inv-loop n routes links tries t₀ k₀ t k = (k ≤ n) × RowsTo (listedWork routes links tries) n k t
+Inv-loop n routes links tries t₀ k₀ t k = SoFar n (λ i. RowsTo (listedWork routes links tries) n i t) k
 
 abbrev μ-loop : tie.MeasureT-loop
 μ-loop n routes links tries t₀ k₀ t k = n - k
 
-loop-holds : tie.Need-loop-holds Inv-loop μ-loop
-loop-holds c = (search needs, c .pre .1)
-
 conflict-row-requires : tie.Need-conflict-row-requires Inv-loop μ-loop
 conflict-row-requires c κs =
     let b = c .before .before .before in
-    (c .before .loop-test .taken, c .before .before .loop .inv .1 .whole, b .pre .0)
+    (c .before .loop-test .taken, c .before .before .loop .inv .holds .whole, b .pre .0)
 
 loop-again : tie.Need-loop-again Inv-loop μ-loop
 loop-again c =
-    let b = c .before .before .before .before in
-    let w = c .before .before .before .loop in
-    (search needs, rows-next _ _ (w .k) _ _ (b .pre .0 .few) (w .inv .1) (c .conflict-row .ensures))
-
-returns : tie.Need-returns Inv-loop μ-loop
-returns c =
-    let e : c .before .loop .k ≡ c .before .before .args .n = omega arith in
-    rw e at (c .before .loop .inv .1)
+    let w = c .before .before .before in
+    goes-on (c .before .before .loop-test .taken) (rows-next _ _ _ _ _ (w .before .pre .0 .few) (w .loop .inv .holds) (c .conflict-row .ensures))
 
 pub conflict-rows-spec : {M : Type 1} → statement M
 conflict-rows-spec =
@@ -39,9 +29,9 @@ conflict-rows-spec =
     (tie.spec
     Inv-loop
     μ-loop
-    loop-holds
+    (λ c. begins (c .pre .1))
     conflict-row-requires
     (λ c. search needs)
     (λ c. search needs)
     loop-again
-    returns)
+    (λ c. ends (c .before .loop .inv) (c .loop-test .left)))

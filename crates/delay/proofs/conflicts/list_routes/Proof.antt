@@ -1,32 +1,26 @@
 -- `list_routes`: the first k entries are the routes, links and tries. Assumes nothing beyond its `requires`.
-use mathlib.Core.Path.{_≡_, refl}
+use mathlib.Core.Path.{refl}
 use Prim.Native.Nat.{_-_, _≤_}
 use native.Mathlib.Omega.{arith}
 use Rattle.delay.specs.AcceptedFlows.{count-at}
 use Rattle.delay.specs.RouteLists.{ListedTo, listed-next}
 use Rattle.model.specs.Limits.{mostFlows}
+use Rattle.laws.specs.Loops.{SoFar, begins, goes-on, ends}
 use borrow.Author.Needs.{needs}
 use Rattle.delay.proofs.conflicts.list_routes.Statement.{statement}
 use Rattle.delay.proofs.conflicts.list_routes.Tie as tie
 
 abbrev Inv-loop : tie.InvT-loop
-Inv-loop routes₀ links₀ tries₀ s n k₀ routes links tries k = (k ≤ n) × (n ≤ mostFlows) × ListedTo s k routes links tries
+Inv-loop routes₀ links₀ tries₀ s n k₀ routes links tries k = SoFar n (λ i. (n ≤ mostFlows) × ListedTo s i routes links tries) k
 
 abbrev μ-loop : tie.MeasureT-loop
 μ-loop routes₀ links₀ tries₀ s n k₀ routes links tries k = n - k
 
-loop-holds : tie.Need-loop-holds Inv-loop μ-loop
-loop-holds c = (search needs, count-at (c .args .t1) (c .pre .0), c .pre .1)
-
 loop-again : tie.Need-loop-again Inv-loop μ-loop
 loop-again c =
-    let w = c .before .before .before .before .loop in
-    (search needs, search needs, listed-next _ (w .k) _ _ _ _ _ _ (omega arith) (w .inv .2) (c .before .route .ensures) (c .links .ensures .0) refl)
-
-returns : tie.Need-returns Inv-loop μ-loop
-returns c =
-    let e : c .before .loop .k ≡ c .before .before .args .t1 .count = omega arith in
-    rw e at (c .before .loop .inv .2)
+    let w = c .before .before .before .before .loop .inv .holds in
+    goes-on (c .before .before .before .loop-test .taken)
+    (w .0, listed-next _ _ _ _ _ _ _ _ (omega arith) (w .1) (c .before .route .ensures) (c .links .ensures .0) refl)
 
 pub list-routes-spec : {M : Type 1} → statement M
 list-routes-spec =
@@ -35,7 +29,7 @@ list-routes-spec =
     Inv-loop
     μ-loop
     (λ c. search needs)
-    loop-holds
+    (λ c. begins (count-at (c .args .t1) (c .pre .0), c .pre .1))
     (λ c. search needs)
     (λ c. search needs)
     (λ c κs. search needs)
@@ -50,4 +44,4 @@ list-routes-spec =
     (λ c. search needs)
     (λ c. search needs)
     loop-again
-    returns)
+    (λ c. ends (c .before .loop .inv) (c .loop-test .left) .1))

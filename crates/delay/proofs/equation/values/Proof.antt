@@ -1,22 +1,19 @@
 -- `values`: the first j entries are the equation's values. Assumes nothing beyond its `requires`.
-use mathlib.Core.Path.{_≡_}
-use Prim.Native.Nat.{_-_, _≤_}
+use Prim.Native.Nat.{_-_}
 use native.Mathlib.Omega.{arith}
 use Rattle.delay.specs.DelayTables.{tablesOf}
 use Rattle.delay.specs.EquationValues.{tableValue, ValuesTo, values-start, values-next}
+use Rattle.laws.specs.Loops.{SoFar, begins, goes-on, ends}
 use borrow.Author.Needs.{needs}
 use Rattle.delay.proofs.equation.values.Statement.{statement}
 use Rattle.delay.proofs.equation.values.Tie as tie
 
 abbrev Inv-loop : tie.InvT-loop
 Inv-loop n m conflict remainder work whole-conflict whole-work slack out₀ j₀ out j =
-    (j ≤ n) × ValuesTo (tableValue (tablesOf conflict remainder work whole-conflict whole-work) m slack) j out
+    SoFar n (λ i. ValuesTo (tableValue (tablesOf conflict remainder work whole-conflict whole-work) m slack) i out) j
 
 abbrev μ-loop : tie.MeasureT-loop
 μ-loop n m conflict remainder work whole-conflict whole-work slack out₀ j₀ out j = n - j
-
-loop-holds : tie.Need-loop-holds Inv-loop μ-loop
-loop-holds c = (search needs, values-start _)
 
 value-requires : tie.Need-value-requires Inv-loop μ-loop
 value-requires c κs =
@@ -26,14 +23,8 @@ value-requires c κs =
 
 loop-again : tie.Need-loop-again Inv-loop μ-loop
 loop-again c =
-    let w = c .before .before .loop in
     let r = c .value .ensures in
-    (search needs, values-next _ (w .j) _ _ (omega arith) (w .inv .1) (r .0) (r .1))
-
-returns : tie.Need-returns Inv-loop μ-loop
-returns c =
-    let e : c .before .loop .j ≡ c .before .before .args .n = omega arith in
-    rw e at (c .before .loop .inv .1)
+    goes-on (c .before .loop-test .taken) (values-next _ _ _ _ (omega arith) (c .before .before .loop .inv .holds) (r .0) (r .1))
 
 pub values-spec : {M : Type 1} → statement M
 values-spec =
@@ -41,11 +32,11 @@ values-spec =
     (tie.spec
     Inv-loop
     μ-loop
-    loop-holds
+    (λ c. begins (values-start _))
     value-requires
     (λ c. search needs)
     (λ c. search needs)
     (λ c. search needs)
     (λ c. search needs)
     loop-again
-    returns)
+    (λ c. ends (c .before .loop .inv) (c .loop-test .left)))

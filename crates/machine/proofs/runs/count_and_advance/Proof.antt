@@ -13,21 +13,24 @@ use Prim.{tt}
 use Prim.Native.Nat.{ℕ, _+_, _-_, _≤_}
 use mathlib.Core.Bool.{Bool, _&&_}
 use mathlib.Core.Path.{_≡_, refl, sym, ap, ap₂, _∙_}
+use Rattle.laws.specs.Loops.{SoFar, begins, goes-on, ends}
 use borrow.Author.Needs.{needs}
 use Rattle.machine.proofs.runs.count_and_advance.Statement.{statement}
 use Rattle.machine.proofs.runs.count_and_advance.Tie as tie
 
 abbrev Inv-loop : tie.InvT-loop
 Inv-loop count t start due work marked sent₀ delivered₀ dropped₀ k₀ sent delivered dropped k =
-    (k ≤ count) × Through (countBy sent₀ marked) k sent₀ sent
-    × (delivered ≡ length (deliveredTo sent₀ work marked k)) × (dropped ≡ length (droppedTo t (packetsOf start due sent₀ work) marked k))
+    SoFar count
+    (λ i. (delivered ≡ length (deliveredTo sent₀ work marked i)) × (dropped ≡ length (droppedTo t (packetsOf start due sent₀ work) marked i))
+    × Through (countBy sent₀ marked) i sent₀ sent)
+    k
 
 abbrev μ-loop : tie.MeasureT-loop
 μ-loop count t start due work marked sent₀ delivered₀ dropped₀ k₀ sent delivered dropped k = count - k
 
 loop-holds : tie.Need-loop-holds Inv-loop μ-loop
 unfolding filterTo
-loop-holds c = (search needs, through-none _ _, refl, refl)
+loop-holds c = begins (refl, refl, through-none _ _)
 
 -- one number more is looked at
 more : (p : ℕ → Bool) (k : ℕ) → length (filterTo p (k + 1)) ≡ length (filterTo p k) + bit (p k)
@@ -53,7 +56,7 @@ small : (c : tie.In-loop Inv-loop μ-loop)
 small c =
     let v = c .before .loop in
     let p = c .before .before .pre .1 (v .k) in
-    (rw (v .inv .1 .above (v .k) (le-refl (v .k))) (p .0), p .1)
+    (rw (v .inv .holds .2 .above (v .k) (le-refl (v .k))) (p .0), p .1)
 
 add-after : tie.Need-add-after Inv-loop μ-loop
 add-after c = omega (arith, small (c .before .before))
@@ -63,14 +66,14 @@ add-delivered c =
     let i = looked c in
     let v = i .before .loop in
     let s = i .before .before in
-    omega (arith, c .bit .ensures .1, v .inv .2, filter-le (got s) (v .k), i .loop-test .taken, s .pre .0 .0)
+    omega (arith, c .bit .ensures .1, v .inv .holds .0, filter-le (got s) (v .k), i .loop-test .taken, s .pre .0 .0)
 
 add-dropped : tie.Need-add-dropped Inv-loop μ-loop
 add-dropped c =
     let i = looked (c .before) in
     let v = i .before .loop in
     let s = i .before .before in
-    omega (arith, c .bit2 .ensures .1, v .inv .3, filter-le (lost s) (v .k), i .loop-test .taken, s .pre .0 .0)
+    omega (arith, c .bit2 .ensures .1, v .inv .holds .1, filter-le (lost s) (v .k), i .loop-test .taken, s .pre .0 .0)
 
 loop-again : tie.Need-loop-again Inv-loop μ-loop
 loop-again c =
@@ -81,24 +84,18 @@ loop-again c =
     let k = v .k in
     let l = i .loop-test .taken in
     let m : ℕ = getD (a .marked .now) k 0 in
-    let u : getD (v .sent) k 0 ≡ getD (a .sent .now) k 0 = v .inv .1 .above k (le-refl k) in (
-      omega (arith, l),
-      through-next _ k _ _ _ (omega (arith, l, s .pre .0)) (ap (λ (x : ℕ). x + m) u) (v .inv .1),
-      ap₂ (λ (x y : ℕ). x + y) (v .inv .2)
+    let u : getD (v .sent) k 0 ≡ getD (a .sent .now) k 0 = v .inv .holds .2 .above k (le-refl k) in
+    goes-on l (
+      ap₂ (λ (x y : ℕ). x + y) (v .inv .holds .0)
           (c .before .bit .ensures .0 ∙ ap bit (tested (c .before) .is-delivered .ensures
           ∙ ap (λ (n : ℕ). eqb m 1 && eqb (n + 1) (getD (a .work .now) k 0)) u))
           ∙ sym (more (got s) k),
-      ap₂ (λ (x y : ℕ). x + y) (v .inv .3)
+      ap₂ (λ (x y : ℕ). x + y) (v .inv .holds .1)
           (c .bit2 .ensures .0 ∙ ap bit (c .before .before .is-dropped .ensures
           ∙ ap (λ (n : ℕ). leb (getD (a .start .now) k 0) (a .t) && eqb (a .t + 1) (getD (a .due .now) k 0) && ltb (n + m) (getD (a .work .now) k 0)) u))
           ∙ sym (more (lost s) k),
+      through-next _ _ _ _ _ (omega (arith, l, s .pre .0)) (ap (λ (x : ℕ). x + m) u) (v .inv .holds .2),
     )
-
-returns : tie.Need-returns Inv-loop μ-loop
-returns c =
-    let v = c .before .loop in
-    let e : v .k ≡ c .before .before .args .count = search needs in
-    rw (← e) (v .inv .2, (v .inv .3, v .inv .1))
 
 pub count-and-advance-spec : {M : Type 1} → statement M
 count-and-advance-spec =
@@ -126,4 +123,4 @@ count-and-advance-spec =
     (λ c. search needs)
     (λ c. search needs)
     loop-again
-    returns)
+    (λ c. let i = ends (c .before .loop .inv) (c .loop-test .left) in (i .0, (i .1, i .2))))
