@@ -18,7 +18,10 @@ abbrev μ-loop : tie.MeasureT-loop
 
 -- a node of a flow that the code holds has 16 bits
 cast-numbers-5 : tie.Need-cast-numbers-5 Inv-loop μ-loop
-cast-numbers-5 c = let b = c .before .before .before .before .before .before .before in fits-widen tt (node-held (b .args .f) _ (b .good .0) _)
+cast-numbers-5 c =
+    let w = c .before .before .before .before in
+    let b = w .before .before .before in
+    fits-widen tt (node-held (b .args .f) _ (b .good .0) _)
 
 loop-again : tie.Need-loop-again Inv-loop μ-loop
 loop-again c = copied-more _ _ _ _ _ (c .before .loop .inv) (c .loop-test .taken) refl
