@@ -79,19 +79,19 @@ extern "C" {
 /* The refusals by number, as the answers have them. 1 to 9 name the text's line, counted from 1; the others line 0. */
 typedef enum {
     REMBASUK_NOT_REFUSED = 0,
-    REMBASUK_BAD_FORM = 1,       /* the line lacks its form: a wrong word or number, blanks for tabs, CR, no LF at the end, empty text */
-    REMBASUK_NO_CHANNEL = 2,     /* map 0 */
-    REMBASUK_TOO_MANY_FLOWS = 3, /* a 65th flow */
-    REMBASUK_BAD_PERIOD = 4,     /* period 0 */
-    REMBASUK_BAD_DEADLINE = 5,   /* deadline 0 or above the period */
-    REMBASUK_BAD_TRIES = 6,      /* tries outside 1 to 4 */
-    REMBASUK_BAD_ROUTE = 7,      /* fewer than 2 or more than 17 nodes */
-    REMBASUK_NODE_TWICE = 8,     /* a node twice in one route */
-    REMBASUK_TOO_MUCH_WORK = 9,  /* links x tries above the deadline */
-    REMBASUK_NO_ROOM = 10,       /* the lent buffer is shorter than what is to be written */
-    REMBASUK_AT_LAST_SLOT = 11,  /* the state is at slot 4000000000 */
-    REMBASUK_BAD_STATE = 12,     /* its slot is above the last, a count is above its flow's C or beyond the last flow, or it has not 68 bytes */
-    REMBASUK_NO_SUCH_FLOW = 13   /* no flow of that number */
+    REMBASUK_BAD_FORM = 1,         /* the line lacks its form: a wrong word or number, blanks for tabs, CR, no LF at the end, empty text */
+    REMBASUK_NO_CHANNEL = 2,       /* map 0 */
+    REMBASUK_TOO_MANY_FLOWS = 3,   /* a 65th flow */
+    REMBASUK_BAD_PERIOD = 4,       /* period 0 */
+    REMBASUK_BAD_DEADLINE = 5,     /* deadline 0 or above the period */
+    REMBASUK_BAD_TRIES = 6,        /* tries outside 1 to 4 */
+    REMBASUK_BAD_ROUTE = 7,        /* fewer than 2 or more than 17 nodes */
+    REMBASUK_EQUAL_NEIGHBOURS = 8, /* a node equals the one just before it in the route */
+    REMBASUK_TOO_MUCH_WORK = 9,    /* links x tries above the deadline */
+    REMBASUK_NO_ROOM = 10,         /* the lent buffer is shorter than what is to be written */
+    REMBASUK_AT_LAST_SLOT = 11,    /* the state is at slot 4000000000 */
+    REMBASUK_BAD_STATE = 12,       /* its slot is above the last, a count is above its flow's C or beyond the last flow, or it has not 68 bytes */
+    REMBASUK_NO_SUCH_FLOW = 13     /* no flow of that number */
 } rembasuk_refusal;
 
 /* A refusal in English, for whoever typed the set; any number is answered. Plain C of this header, not of the library. */
@@ -106,7 +106,7 @@ static inline const char *rembasuk_refusal_text(uint32_t refusal)
     case REMBASUK_BAD_DEADLINE: return "the deadline is 0 or above the period";
     case REMBASUK_BAD_TRIES: return "the tries are not 1 to 4";
     case REMBASUK_BAD_ROUTE: return "the route has fewer than 2 or more than 17 nodes";
-    case REMBASUK_NODE_TWICE: return "a node stands twice in the route";
+    case REMBASUK_EQUAL_NEIGHBOURS: return "a node equals the one just before it in the route";
     case REMBASUK_TOO_MUCH_WORK: return "links times tries are above the deadline";
     case REMBASUK_NO_ROOM: return "the lent buffer is too short";
     case REMBASUK_AT_LAST_SLOT: return "the state is at the last slot";

@@ -45,5 +45,9 @@ int main(void)
             }
         }
     }
+    if (strcmp(rembasuk_refusal_text(REMBASUK_EQUAL_NEIGHBOURS), "a node equals the one just before it in the route") != 0) {
+        puts("header: the text of refusal 8");
+        return 1;
+    }
     return strcmp(rembasuk_refusal_text(0xffffffffu), rembasuk_refusal_text((uint32_t)last + 1)) != 0;
 }

@@ -1,6 +1,6 @@
-/* A C host of the planner: every exported function on good and bad input, short and overlong buffers, every refusal, and P1 to P8 of
- * document 01 slot by slot from the fresh state. Each lent buffer stands right before, and again right after, a page that may not be
- * touched, and the bytes around it are compared, since a sanitizer does not see into the archive. */
+/* A C host of the planner: every exported function on good and bad input, short and overlong buffers, every refusal, and P1 to P8 and P11
+ * of document 01 with two more routes that return, slot by slot from the fresh state. Each lent buffer stands right before, and again right
+ * after, a page that may not be touched, and the bytes around it are compared, since a sanitizer does not see into the archive. */
 #define _DEFAULT_SOURCE
 #include <stdio.h>
 #include <stdlib.h>
@@ -137,6 +137,9 @@ static rembasuk_slot_answer slot_of(const char *text, size_t length, uint8_t *st
 #define P9 "set\t1\nflow\t10\t3\t0\t2\t1\t2\t3\n"
 #define P10 "set\t0\n"
 #define P11 "set\t1\nflow\t10\t4\t0\t2\t1\t2\t1\n"
+/* loops beside another flow; in the second one the link 1-2 stands twice */
+#define L1 "set\t3\nflow\t20\t20\t0\t1\t1\t2\t3\t2\t1\nflow\t20\t20\t0\t1\t4\t2\n"
+#define L2 "set\t3\nflow\t10\t6\t0\t1\t1\t2\t1\t2\nflow\t10\t10\t0\t1\t2\t9\n"
 
 typedef struct {
     const char *text;
@@ -158,6 +161,10 @@ static const point points[] = {
     {P6, 0, 0, 3, "send\t0\t0\t1\t2\t0\t11\nsend\t1\t1\t3\t4\t0\t11\n", 10},
     {P7, 1, 1, 2, "send\t0\t0\t1\t2\t0\t11\nsend\t0\t2\t4\t5\t0\t12\nsend\t1\t1\t2\t3\t0\t12\n", 10},
     {P8, 1, 1, 4, "send\t0\t0\t1\t2\t0\t11\nsend\t1\t0\t1\t2\t1\t11\nsend\t2\t0\t2\t3\t0\t11\nsend\t3\t0\t2\t3\t1\t11\n", 10},
+    {P11, 1, 1, 4, "send\t0\t0\t1\t2\t0\t11\nsend\t1\t0\t1\t2\t1\t11\nsend\t2\t0\t2\t1\t0\t11\nsend\t3\t0\t2\t1\t1\t11\n", 10},
+    {L1, 1, 1, 5,
+     "send\t0\t0\t1\t2\t0\t11\nsend\t1\t0\t2\t3\t0\t12\nsend\t2\t0\t3\t2\t0\t11\nsend\t3\t0\t2\t1\t0\t12\nsend\t4\t1\t4\t2\t0\t11\n", 20},
+    {L2, 1, 1, 0, "send\t0\t0\t1\t2\t0\t11\nsend\t1\t0\t2\t1\t0\t12\nsend\t2\t0\t1\t2\t0\t11\nsend\t3\t1\t2\t9\t0\t12\n", 10},
 };
 
 static void run_point(const point *p, int at_end)
@@ -191,6 +198,15 @@ static void p1_bounds(int at_end)
     CHECK(bounds_of(P3, strlen(P3), 4, at_end).margin == -1);
 }
 
+static void l2_bounds(int at_end)
+{
+    rembasuk_bounds_answer a = bounds_of(L2, strlen(L2), 0, at_end), b = bounds_of(L2, strlen(L2), 1, at_end);
+    CHECK(a.work == 3 && a.basic == 4 && a.tightened == 3 && a.deadline == 6 && a.margin == 3);
+    CHECK(b.work == 1 && b.basic == 4 && b.tightened == 4 && b.deadline == 10 && b.margin == 6);
+    CHECK(verdict_of(L2, strlen(L2), at_end).rounds == 3);
+    CHECK(verdict_of(L1, strlen(L1), at_end).rounds == 2 && verdict_of(P11, strlen(P11), at_end).rounds == 1);
+}
+
 /* ---- refusals */
 
 static void refused_text(const char *text, size_t length, uint32_t number, uint32_t line, int at_end)
@@ -221,7 +237,9 @@ static void refused_texts(int at_end)
     refused_text("set\t3\nflow\t5\t6\t0\t0\n", 20, 5, 2, at_end);
     refused_text("set\t3\nflow\t5\t5\t0\t5\n", 20, 6, 2, at_end);
     refused_text("set\t3\nflow\t5\t5\t0\t1\n", 20, 7, 2, at_end);
-    refused_text(P11, strlen(P11), 8, 2, at_end);
+    refused_text("set\t1\nflow\t9\t9\t0\t1\t0\t0\n", 23, REMBASUK_EQUAL_NEIGHBOURS, 2, at_end);
+    refused_text("set\t1\nflow\t9\t9\t0\t1\t1\t1\t2\n", 25, REMBASUK_EQUAL_NEIGHBOURS, 2, at_end);
+    refused_text("set\t1\nflow\t9\t9\t0\t1\t1\t2\t2\n", 25, REMBASUK_EQUAL_NEIGHBOURS, 2, at_end);
     refused_text(P9, strlen(P9), 9, 2, at_end);
     strcpy(many, "set\t1\n");
     for (i = 0; i < 65; i++) {
@@ -444,6 +462,7 @@ int main(void)
             run_point(&points[i], at_end);
         }
         p1_bounds(at_end);
+        l2_bounds(at_end);
         refused_texts(at_end);
         refused_slots(at_end);
         limits(at_end);

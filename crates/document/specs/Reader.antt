@@ -4,18 +4,19 @@ use Prim.Native.Nat.{ℕ, zero, suc, _+_, _-_, _*_, _≤_, _<_}
 use lib.{Dec.{leb, ltb, eqb}, ListN.{length, getD, take, drop, set, replicate}}
 use Rattle.model.specs.declared.kinds.{Flow.{Flow}, FlowSet.{FlowSet}}
 use Rattle.model.specs.declared.answers.{Fault.{Fault}, Reading.{Reading}, Written.{Written}, Refusal.{Refusal}}
-use Rattle.model.specs.declared.answers.Refusal.the-variants.{Nothing, BadForm, NoChannel, TooManyFlows, BadPeriod, BadDeadline, BadTries, BadRoute, NodeTwice, TooMuchWork, NoRoom}
-use Rattle.model.specs.{Limits.{mostFlows, mostNodes}, Refusals.{good, faultAt, noFault, orElse}, Sets.{flowAt, blankFlow, blankSet, memb, used, SameSet}}
+use Rattle.model.specs.declared.answers.Refusal.the-variants.{Nothing, BadForm, NoChannel, TooManyFlows, BadPeriod, BadDeadline, BadTries, BadRoute, EqualNeighbours, TooMuchWork, NoRoom}
+use Rattle.model.specs.{Limits.{mostFlows, mostNodes}, Refusals.{good, faultAt, noFault, orElse}, Sets.{flowAt, blankFlow, blankSet, used, SameSet}}
 use Rattle.document.specs.Text.{setWord, flowWord, lines, wellFormed, numbersOf, lineOf}
 
 -- rule 2
 abbrev pub mapFault : ℕ → Refusal
 mapFault m = cond (eqb m 0) NoChannel Nothing
 
--- rule 8: a node twice in one route
-unfoldable pub twice : List ℕ → Bool
-twice [] = false
-twice (x ∷ r) = memb x r || twice r
+-- rule 8: the place of the first node that equals the one just before it, the route's length where there is none
+unfoldable pub repeatAt : List ℕ → ℕ
+repeatAt [] = 0
+repeatAt (x ∷ []) = 1
+repeatAt (x ∷ y ∷ r) = cond (eqb x y) 1 (suc (repeatAt (y ∷ r)))
 
 -- rules 3 to 9 in their order, of the flow that is number k, with period t, deadline d, tries c and this route of n nodes
 unfoldable pub flowFault : ℕ → ℕ → ℕ → ℕ → ℕ → List ℕ → Refusal
@@ -25,7 +26,7 @@ flowFault k t d c n r =
     (cond (eqb d 0 || ltb t d) BadDeadline
     (cond (eqb c 0 || ltb 4 c) BadTries
     (cond (ltb n 2 || ltb mostNodes n) BadRoute
-    (cond (twice r) NodeTwice
+    (cond (ltb (repeatAt r) (length r)) EqualNeighbours
     (cond (ltb d ((n - 1) * c)) TooMuchWork Nothing))))))
 
 -- the same of a flow of a record

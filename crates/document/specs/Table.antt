@@ -1,6 +1,6 @@
--- Document 01, "Sets on either side of a line": P1 to P11, with all that the document says of each, in one table under one theorem; and
--- rows of our own, for what no P says: starts, several tries beside another flow, offsets, deliveries, the refusals that are only run, a
--- state's bytes, buffers, what C is answered.
+-- Document 01, "Sets on either side of a line": P1 to P11, with all that the document says of each, in one table under one theorem; P11 and the
+-- rows after it as request 1 has them; and rows of our own, for what none of these says: starts, several tries beside another flow, offsets,
+-- deliveries, the refusals that are only run, a state's bytes, buffers, what C is answered.
 -- The sets are their texts, run through the reader's definition; the checker computes the rest.
 use mathlib.Core.{Bool.{Bool, true, false, not, _&&_}, List.{List, [], _∷_, _++_}}
 use Prim.Native.{Char.{code}, Nat.{ℕ, zero, suc, _+_}}
@@ -11,7 +11,7 @@ use Rattle.model.specs.declared.answers.{Fault.{Fault}, Reading.{Reading}, Send
 use Rattle.model.specs.declared.answers.{VerdictAnswer.{VerdictAnswer}, BoundsAnswer.{BoundsAnswer}, SlotAnswer.{SlotAnswer}, TableAnswer.{TableAnswer}}
 use Rattle.model.specs.{Refusals.{refusalNumber}, Sums.{sumTo, anyTo, allTo}, Sets.{flowAt, used, anyOf, meet, listTo, filterTo}}
 use Rattle.document.specs.Text.{same, lines, ended, fields, allDigits, valueFrom, isNumber, allNumbers, valuesOf, wellFormed, numbersOf, decimalIn, decimal, tabbed, decimals, lineOf}
-use Rattle.document.specs.Reader.{twice, flowFault, flowsFault, recordFault, flowOf, withFlow, firstLineFault, flowLineFault, readFlows, setOf, readLines, readText, flowLines, textOf, pad, writeFault, writeAnswer, writeInto}
+use Rattle.document.specs.Reader.{repeatAt, flowFault, flowsFault, recordFault, flowOf, withFlow, firstLineFault, flowLineFault, readFlows, setOf, readLines, readText, flowLines, textOf, pad, writeFault, writeAnswer, writeInto}
 use Rattle.document.specs.Delay.{conflictWork, share, overOthers, boundWith, basicBound, valueAt, deadlines, lowered, roundTo, roundsIn, reached, tightBound, admits, verdictOf, boundsFault, boundsOf}
 use Rattle.document.specs.Machine.{ready, nextCount, insert, ordered, place, channelsTo, radioChannel, sendOf, sendsFrom, sendsAt, deliveriesOf, droppedAt, badState, stepFault, stepOf, runOf, countWith, deliveredWith, droppedWith, nextWith, placedWith, runWith, stepWith}
 use Rattle.document.specs.Program.{stateLength, stateBytes, stateOf, sendNumbers, sendLines, slotLines, slotFault, slotState, slotBuffer, boundLines, runLines, planOf, planText}
@@ -271,6 +271,65 @@ points =
     ∷ []
     )
     ∷ point "set\t1\nflow\t10\t4\t0\t2\t1\t2\t1\n"
+    (refused 0 0
+    ∷ written
+    ∷ basics (4 ∷ [])
+    ∷ tights (4 ∷ [])
+    ∷ verdict true true
+    ∷ rounds 1
+    ∷ margin 0 (pos 0)
+    ∷ sends 4
+    ((0 ∷ 0 ∷ 1 ∷ 2 ∷ 0 ∷ 11 ∷ [])
+    ∷ (1 ∷ 0 ∷ 1 ∷ 2 ∷ 1 ∷ 11 ∷ [])
+    ∷ (2 ∷ 0 ∷ 2 ∷ 1 ∷ 0 ∷ 11 ∷ [])
+    ∷ (3 ∷ 0 ∷ 2 ∷ 1 ∷ 1 ∷ 11 ∷ [])
+    ∷ []
+    )
+    ∷ boundsC 0 (0 ∷ 0 ∷ 4 ∷ 4 ∷ 4 ∷ 4 ∷ []) (pos 0)
+    ∷ []
+    )
+    -- request 1: a loop beside another flow; a link that stands twice counts twice; 16 links between two nodes; equal neighbours, first and last
+    ∷ point "set\t3\nflow\t20\t20\t0\t1\t1\t2\t3\t2\t1\nflow\t20\t20\t0\t1\t4\t2\n"
+    (refused 0 0
+    ∷ written
+    ∷ basics (5 ∷ 5 ∷ [])
+    ∷ tights (5 ∷ 5 ∷ [])
+    ∷ verdict true true
+    ∷ rounds 2
+    ∷ sends 5
+    ((0 ∷ 0 ∷ 1 ∷ 2 ∷ 0 ∷ 11 ∷ [])
+    ∷ (1 ∷ 0 ∷ 2 ∷ 3 ∷ 0 ∷ 12 ∷ [])
+    ∷ (2 ∷ 0 ∷ 3 ∷ 2 ∷ 0 ∷ 11 ∷ [])
+    ∷ (3 ∷ 0 ∷ 2 ∷ 1 ∷ 0 ∷ 12 ∷ [])
+    ∷ (4 ∷ 1 ∷ 4 ∷ 2 ∷ 0 ∷ 11 ∷ [])
+    ∷ []
+    )
+    ∷ boundsC 0 (0 ∷ 0 ∷ 4 ∷ 5 ∷ 5 ∷ 20 ∷ []) (pos 15)
+    ∷ boundsC 1 (0 ∷ 0 ∷ 1 ∷ 5 ∷ 5 ∷ 20 ∷ []) (pos 15)
+    ∷ []
+    )
+    ∷ point "set\t3\nflow\t10\t6\t0\t1\t1\t2\t1\t2\nflow\t10\t10\t0\t1\t2\t9\n"
+    (refused 0 0
+    ∷ written
+    ∷ basics (4 ∷ 4 ∷ [])
+    ∷ tights (3 ∷ 4 ∷ [])
+    ∷ verdict true true
+    ∷ rounds 3
+    ∷ report 3 ((3 ∷ 1 ∷ 2 ∷ 9 ∷ 0 ∷ 0 ∷ 12 ∷ []) ∷ []) ((1 ∷ 4 ∷ []) ∷ []) []
+    ∷ []
+    )
+    ∷ point "set\t1\nflow\t64\t64\t0\t4\t1\t2\t1\t2\t1\t2\t1\t2\t1\t2\t1\t2\t1\t2\t1\t2\t1\n"
+    (refused 0 0
+    ∷ written
+    ∷ verdict true true
+    ∷ boundsC 0 (0 ∷ 0 ∷ 64 ∷ 64 ∷ 64 ∷ 64 ∷ []) (pos 0)
+    ∷ []
+    )
+    ∷ point "set\t1\nflow\t10\t4\t0\t2\t1\t1\t2\n"
+    (refused 8 2
+    ∷ []
+    )
+    ∷ point "set\t1\nflow\t10\t4\t0\t2\t1\t2\t2\n"
     (refused 8 2
     ∷ []
     )
@@ -352,6 +411,11 @@ points =
     ∷ lineOfFlow 0 "flow\t10\t10\t0\t1\t1\n" 7
     ∷ lineOfFlow 0 "flow\t16\t16\t0\t1\t0\t1\t2\t3\t4\t5\t6\t7\t8\t9\t10\t11\t12\t13\t14\t15\t16\n" 0
     ∷ lineOfFlow 0 "flow\t16\t16\t0\t1\t0\t1\t2\t3\t4\t5\t6\t7\t8\t9\t10\t11\t12\t13\t14\t15\t16\t16\n" 7
+    ∷ lineOfFlow 0 "flow\t10\t4\t0\t1\t1\t0\n" 0
+    ∷ lineOfFlow 0 "flow\t10\t4\t0\t1\t0\t0\n" 8
+    ∷ lineOfFlow 0 "flow\t10\t1\t0\t1\t1\t2\t2\n" 8
+    ∷ lineOfFlow 0 "flow\t64\t63\t0\t4\t1\t2\t1\t2\t1\t2\t1\t2\t1\t2\t1\t2\t1\t2\t1\t2\t1\n" 9
+    ∷ lineOfFlow 0 "flow\t64\t64\t0\t4\t1\t2\t1\t2\t1\t2\t1\t2\t1\t2\t1\t2\t1\t2\t1\t2\t1\t1\n" 7
     ∷ planOfZeros 16384 "refused\t1\t1\n"
     ∷ planOfZeros 16385 "refused\t10\t0\n"
     ∷ []
@@ -378,5 +442,5 @@ points =
     ∷ []
 
 pub every-point : T (every points)
-unfolding every points point allHold holds same? sameSigned faultIs writtenRow slotRow offsetRows deliveryRows reportHolds rowsTo flowsOf rows sameRows bytes bytesOf same lines ended fields allDigits valueFrom isNumber allNumbers valuesOf wellFormed numbersOf decimalIn decimal tabbed decimals lineOf twice flowFault flowsFault recordFault flowOf withFlow firstLineFault flowLineFault readFlows setOf readLines readText flowLines textOf writeFault writeAnswer writeInto conflictWork share overOthers boundWith basicBound valueAt deadlines lowered roundTo roundsIn reached tightBound admits verdictOf boundsFault boundsOf ready nextCount insert ordered place placedWith channelsTo radioChannel sendOf sendsFrom countWith deliveredWith deliveriesOf droppedWith nextWith badState stepFault stepWith runWith stateBytes stateOf sendLines slotLines slotFault slotState slotBuffer boundLines runLines planOf planText verdictOfReading boundsOfReading slotAnswer boundsRows tableFault tableAnswer tableAfter verdictForC boundsForC slotForC allBoundsForC tableRow verdictRow boundsAnswerRow sumTo anyTo allTo used anyOf meet listTo filterTo ones onesIn
+unfolding every points point allHold holds same? sameSigned faultIs writtenRow slotRow offsetRows deliveryRows reportHolds rowsTo flowsOf rows sameRows bytes bytesOf same lines ended fields allDigits valueFrom isNumber allNumbers valuesOf wellFormed numbersOf decimalIn decimal tabbed decimals lineOf repeatAt flowFault flowsFault recordFault flowOf withFlow firstLineFault flowLineFault readFlows setOf readLines readText flowLines textOf writeFault writeAnswer writeInto conflictWork share overOthers boundWith basicBound valueAt deadlines lowered roundTo roundsIn reached tightBound admits verdictOf boundsFault boundsOf ready nextCount insert ordered place placedWith channelsTo radioChannel sendOf sendsFrom countWith deliveredWith deliveriesOf droppedWith nextWith badState stepFault stepWith runWith stateBytes stateOf sendLines slotLines slotFault slotState slotBuffer boundLines runLines planOf planText verdictOfReading boundsOfReading slotAnswer boundsRows tableFault tableAnswer tableAfter verdictForC boundsForC slotForC allBoundsForC tableRow verdictRow boundsAnswerRow sumTo anyTo allTo used anyOf meet listTo filterTo ones onesIn
 every-point = tt

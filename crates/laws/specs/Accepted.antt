@@ -1,5 +1,6 @@
 -- What a set has in which the record check finds no fault: each rule refuses by a test, so each test failed.
 use mathlib.Core.Path.{_≡_, refl, sym, _∙_}
+use mathlib.Core.Logic.{_≢_}
 use mathlib.Core.Bool.{Bool, true, false, _||_, cond, false≢true}
 use Prim.Native.Nat.{ℕ, zero, suc, _+_, _-_, _*_, _/_, _≤_, _<_, zero-le}
 use native.Mathlib.Nat.{mul-le-mul}
@@ -9,16 +10,20 @@ use borrow.Author.Tests.{ltb-false, leb-false, eqb-false}
 use lib.Arith.{bin-ind}
 use lib.Count.{ones, ones-step}
 use lib.Dec.{leb, ltb, eqb}
+use lib.ListN.{length, getD}
+use lib.Seq.{getD-take, length-take-le}
 use Rattle.model.specs.declared.kinds.Flow.{Flow}
 use Rattle.model.specs.declared.kinds.FlowSet.{FlowSet}
 use Rattle.model.specs.declared.answers.Fault.{Fault}
 use Rattle.model.specs.declared.answers.Refusal.{Refusal}
-use Rattle.model.specs.declared.answers.Refusal.the-variants.{Nothing, TooManyFlows, BadPeriod, BadDeadline, BadTries, BadRoute, NodeTwice, TooMuchWork}
+use Rattle.model.specs.declared.answers.Refusal.the-variants.{Nothing, TooManyFlows, BadPeriod, BadDeadline, BadTries, BadRoute, EqualNeighbours, TooMuchWork}
 use Rattle.model.specs.Limits.{mostFlows, mostNodes, mostLinks}
 use Rattle.model.specs.Refusals.{good, faultAt, orElse}
-use Rattle.model.specs.Sets.{flowAt, links, work}
-use Rattle.document.specs.Reader.{twice, flowFault, flowsFault, recordFault, recordFlowFault, mapFault}
+use Rattle.model.specs.Sets.{flowAt, exact, used, links, work}
+use Rattle.document.specs.Reader.{repeatAt, flowFault, flowsFault, recordFault, recordFlowFault, mapFault}
 use Rattle.laws.specs.SumLaws.{neither}
+use Rattle.laws.specs.Used.{used-count, used-flow}
+use Rattle.laws.specs.Neighbours.{repeat-le, repeat-none}
 
 -- rules 4 to 9 of one flow
 pub record GoodFlow (f : Flow) : Type 0 where
@@ -29,7 +34,7 @@ pub record GoodFlow (f : Flow) : Type 0 where
   pub tries-le : f .tries ≤ 4
   pub nodes-ge : 2 ≤ f .nodes
   pub nodes-le : f .nodes ≤ mostNodes
-  pub once : twice (f .route) ≡ false
+  pub apart : (i : ℕ) → i + 1 < length (f .route) → getD (f .route) i 0 ≢ getD (f .route) (i + 1) 0
   pub work-le : work f ≤ f .deadline .0
 
 -- at most 16 links of at most 4 tries
@@ -70,11 +75,12 @@ good-flow k f h =
     let c = pass (eqb (f .deadline .0) 0 || ltb (f .period .0) (f .deadline .0)) BadDeadline _ refl (b .1) in
     let d = pass (eqb (f .tries) 0 || ltb 4 (f .tries)) BadTries _ refl (c .1) in
     let e = pass (ltb (f .nodes) 2 || ltb mostNodes (f .nodes)) BadRoute _ refl (d .1) in
-    let g = pass (twice (f .route)) NodeTwice _ refl (e .1) in
+    let g = pass (ltb (repeatAt (f .route)) (length (f .route))) EqualNeighbours _ refl (e .1) in
     let w = pass (ltb (f .deadline .0) ((f .nodes - 1) * f .tries)) TooMuchWork Nothing refl (g .1) in
     let c′ = neither _ _ (c .0) in
     let d′ = neither _ _ (d .0) in
-    let e′ = neither _ _ (e .0) in (
+    let e′ = neither _ _ (e .0) in
+    let g′ : repeatAt (f .route) ≡ length (f .route) = omega (arith, repeat-le (f .route), ltb-false (repeatAt (f .route)) (length (f .route)) (g .0)) in (
       leb-false mostFlows k (a .0),
       record {
         period-pos = pos-of _ (b .0);
@@ -84,7 +90,7 @@ good-flow k f h =
         tries-le = ltb-false _ _ (d′ .1);
         nodes-ge = ltb-false _ _ (e′ .0);
         nodes-le = ltb-false _ _ (e′ .1);
-        once = g .0;
+        apart = repeat-none (f .route) g′;
         work-le = ltb-false _ _ (w .0);
       },
     )
@@ -118,6 +124,20 @@ accepted s h =
     most : (n : ℕ) → ((k : ℕ) → k < n → k < mostFlows) → n ≤ mostFlows
     most zero f = zero-le
     most (suc n) f = f n (omega arith)
+
+-- In an accepted set each node of a route differs from the next; so do those of a record's array as far as the route goes.
+pub neighbours-differ : (s : FlowSet) → good (recordFault s .refusal) ≡ true → (k i : ℕ) → k < s .count → i + 1 < length (flowAt s k .route)
+    → getD (flowAt s k .route) i 0 ≢ getD (flowAt s k .route) (i + 1) 0
+neighbours-differ s g k i l = accepted s g .flow k l .apart i
+
+pub nodes-differ : (s : FlowSet) → good (recordFault (used s) .refusal) ≡ true → (k i : ℕ) → k < s .count → length (flowAt s k .route) ≡ mostNodes
+    → i + 1 < flowAt s k .nodes → getD (flowAt s k .route) i 0 ≢ getD (flowAt s k .route) (i + 1) 0
+nodes-differ s g k i l w h e =
+    let f = flowAt s k in
+    let a : GoodFlow (exact f) = rw (used-flow s k l) at (accepted (used s) g .flow k (rw (used-count s) l)) in
+    let n = length-take-le (f .nodes) (f .route) (omega (arith, a .nodes-le)) in
+    a .apart i (omega arith)
+    (getD-take (f .nodes) (f .route) i 0 (omega arith) ∙ e ∙ sym (getD-take (f .nodes) (f .route) (i + 1) 0 h))
 
 -- a number other than 0 has a bit that is one
 pub ones-pos : (n : ℕ) → 0 < n → 0 < ones n

@@ -5,6 +5,7 @@ pub mod RadioChannels
 pub mod Padded
 pub mod Taken
 pub mod Used
+pub mod Neighbours
 pub mod Accepted
 pub mod Values
 pub mod Rounds

@@ -1,14 +1,13 @@
 -- The nodes of a route from a place on: one step further takes the node there off the front.
 use mathlib.Core.Path.{_≡_}
-use mathlib.Core.Bool.{true, false, or-true}
+use mathlib.Core.Bool.{true, false}
 use mathlib.Core.List.{List, [], _∷_}
-use Prim.Native.Nat.{ℕ, zero, suc, _+_, _≤_, _<_}
+use Prim.Native.Nat.{ℕ, _+_, _≤_, _<_}
 use native.Mathlib.Numerals.{add-one}
 use native.Mathlib.Omega.{arith}
 use borrow.Author.Tests.{eq-eqb, ne-eqb}
 use lib.ListN.{length, getD, take, drop, drop-of-length-le}
 use lib.Seq.{drop-cons, getD-take, length-take-le}
-use Rattle.document.specs.Reader.{twice}
 use Rattle.model.specs.Sets.{anyOf, memb}
 
 module _ (r : List ℕ) (n : ℕ) (fits : n ≤ length r) where
@@ -36,23 +35,3 @@ module _ (r : List ℕ) (n : ℕ) (fits : n ≤ length r) where
   pub memb-end : (x j : ℕ) → n ≤ j → memb x (drop j (take n r)) ≡ false
   unfolding anyOf
   memb-end x j h = rw (none j h)
-
-  -- the search for a node that stands twice
-  pub twice-here : (i : ℕ) → i < n → memb (getD r i 0) (drop (i + 1) (take n r)) ≡ true → twice (drop i (take n r)) ≡ true
-  unfolding twice
-  twice-here i h e = rw (step i h, e)
-
-  pub twice-on : (i : ℕ) → i < n → memb (getD r i 0) (drop (i + 1) (take n r)) ≡ false → twice (drop i (take n r)) ≡ twice (drop (i + 1) (take n r))
-  unfolding twice
-  twice-on i h e = rw (step i h, e)
-
-  pub twice-end : (i : ℕ) → n ≤ i → twice (drop i (take n r)) ≡ false
-  unfolding twice
-  twice-end i h = rw (none i h)
-
--- a node that stands twice from a place on stands twice in the whole
-pub twice-whole : (l : List ℕ) (i : ℕ) → twice (drop i l) ≡ true → twice l ≡ true
-unfolding twice
-twice-whole l zero e = e
-twice-whole [] (suc i) e = e
-twice-whole (x ∷ r) (suc i) e = let h = twice-whole r i e in rw (h, or-true)

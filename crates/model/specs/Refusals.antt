@@ -4,7 +4,7 @@ use Prim.Native.Nat.{ℕ}
 use lib.{Dec.{eqb}, IntN.{pos}}
 use Rattle.model.specs.declared.answers.{Bounds.{Bounds}, Fault.{Fault}, NumberRead.{NumberRead}, Refusal.{Refusal}, Verdict.{Verdict}}
 use Rattle.model.specs.declared.answers.NumberRead.the-variants.{Value, Refused}
-use Rattle.model.specs.declared.answers.Refusal.the-variants.{Nothing, BadForm, NoChannel, TooManyFlows, BadPeriod, BadDeadline, BadTries, BadRoute, NodeTwice, TooMuchWork, NoRoom, AtLastSlot, BadState, NoSuchFlow}
+use Rattle.model.specs.declared.answers.Refusal.the-variants.{Nothing, BadForm, NoChannel, TooManyFlows, BadPeriod, BadDeadline, BadTries, BadRoute, EqualNeighbours, TooMuchWork, NoRoom, AtLastSlot, BadState, NoSuchFlow}
 
 -- the number of each case; 0 where nothing is refused
 abbrev pub refusalNumber : Refusal → ℕ
@@ -16,7 +16,7 @@ refusalNumber BadPeriod = 4
 refusalNumber BadDeadline = 5
 refusalNumber BadTries = 6
 refusalNumber BadRoute = 7
-refusalNumber NodeTwice = 8
+refusalNumber EqualNeighbours = 8
 refusalNumber TooMuchWork = 9
 refusalNumber NoRoom = 10
 refusalNumber AtLastSlot = 11

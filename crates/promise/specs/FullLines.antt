@@ -15,7 +15,7 @@ use Rattle.model.specs.Refusals.{good}
 use Rattle.model.specs.Sums.{sumTo, allTo}
 use Rattle.model.specs.Sets.{used, anyOf, meet}
 use Rattle.document.specs.Text.{setWord, flowWord, same, lines, ended, fields, allDigits, valueFrom, isNumber, allNumbers, valuesOf, wellFormed, numbersOf, decimalIn, decimal, tabbed, decimals, lineOf}
-use Rattle.document.specs.Reader.{twice, flowFault, flowsFault, recordFault, flowOf, withFlow, firstLineFault, flowLineFault, readFlows, setOf, readLines, readText}
+use Rattle.document.specs.Reader.{repeatAt, flowFault, flowsFault, recordFault, flowOf, withFlow, firstLineFault, flowLineFault, readFlows, setOf, readLines, readText}
 use Rattle.document.specs.Machine.{channels, ready, insert, ordered, place, channelsTo, radioChannel, sendOf, sendsFrom, sendsAt, placedAt, placedWith, ahead, readyAt, clashAt}
 use Rattle.document.specs.Delay.{conflictWork, share, overOthers, boundWith, basicBound, admits, verdictOf}
 use Rattle.document.specs.Program.{sendWord, sendNumbers, sendLines}
@@ -55,11 +55,11 @@ abbrev someState : List ℕ → State
 someState sent = record { slot = record { 0 = 1000000100 }; sent = sent }
 
 read : good (readText crowdedText .fault .refusal) ≡ true
-unfolding rareFlows oftenFlows crowdedText same lines ended fields allDigits valueFrom isNumber allNumbers valuesOf wellFormed numbersOf decimalIn decimal tabbed decimals lineOf twice flowFault flowsFault recordFault flowOf withFlow firstLineFault flowLineFault readFlows setOf readLines readText anyOf
+unfolding rareFlows oftenFlows crowdedText same lines ended fields allDigits valueFrom isNumber allNumbers valuesOf wellFormed numbersOf decimalIn decimal tabbed decimals lineOf repeatAt flowFault flowsFault recordFault flowOf withFlow firstLineFault flowLineFault readFlows setOf readLines readText anyOf
 read = refl
 
 set-is : setIn crowdedText ≡ crowdedSet
-unfolding rareFlows oftenFlows crowdedText same lines ended fields allDigits valueFrom isNumber allNumbers valuesOf wellFormed numbersOf decimalIn decimal tabbed decimals lineOf twice flowFault flowsFault recordFault flowOf withFlow firstLineFault flowLineFault readFlows setOf readLines readText anyOf used rare often crowdedSet
+unfolding rareFlows oftenFlows crowdedText same lines ended fields allDigits valueFrom isNumber allNumbers valuesOf wellFormed numbersOf decimalIn decimal tabbed decimals lineOf repeatAt flowFault flowsFault recordFault flowOf withFlow firstLineFault flowLineFault readFlows setOf readLines readText anyOf used rare often crowdedSet
 set-is = refl
 
 -- k, k + 1, .. , n numbers in all
@@ -200,7 +200,7 @@ full-lines st e =
 
 -- and both tests admit it
 admitted : verdictOf crowdedSet .basic ≡ true
-unfolding rare often crowdedSet flowFault flowsFault recordFault twice conflictWork share overOthers boundWith basicBound admits verdictOf sumTo allTo anyOf meet ones onesIn
+unfolding rare often crowdedSet flowFault flowsFault recordFault repeatAt conflictWork share overOthers boundWith basicBound admits verdictOf sumTo allTo anyOf meet ones onesIn
 admitted = refl
 
 text-admitted : verdictOf (setIn crowdedText) .basic ≡ true

@@ -10,7 +10,7 @@ use Rattle.model.specs.Refusals.{good}
 use Rattle.model.specs.Sums.{sumTo, anyTo, allTo}
 use Rattle.model.specs.Sets.{used, anyOf, meet, listTo}
 use Rattle.document.specs.Text.{same, lines, ended, fields, allDigits, valueFrom, isNumber, allNumbers, valuesOf, wellFormed, numbersOf}
-use Rattle.document.specs.Reader.{twice, flowFault, flowsFault, recordFault, flowOf, withFlow, firstLineFault, flowLineFault, readFlows, setOf, readLines, readText}
+use Rattle.document.specs.Reader.{repeatAt, flowFault, flowsFault, recordFault, flowOf, withFlow, firstLineFault, flowLineFault, readFlows, setOf, readLines, readText}
 use Rattle.document.specs.Delay.{conflictWork, share, overOthers, boundWith, basicBound, valueAt, deadlines, lowered, roundTo, roundsIn, reached, tightBound, admits, verdictOf}
 use Rattle.document.specs.Machine.{stepOf}
 use Rattle.document.specs.Table.{bytes}
@@ -49,6 +49,13 @@ ties = "set\t1\nflow\t10\t10\t0\t1\t1\t2\t3\nflow\t10\t10\t0\t2\t4\t2\nflow\t10\
 abbrev pub tight : string.String
 tight = "set\t1\nflow\t10\t2\t0\t1\t1\t2\nflow\t10\t10\t0\t1\t3\t4\t5\t6\n"
 
+-- request 1's loops: out and back over the same nodes, beside a flow to one of them; and a route with one link twice
+abbrev pub l1 : string.String
+l1 = "set\t3\nflow\t20\t20\t0\t1\t1\t2\t3\t2\t1\nflow\t20\t20\t0\t1\t4\t2\n"
+
+abbrev pub l2 : string.String
+l2 = "set\t3\nflow\t10\t6\t0\t1\t1\t2\t1\t2\nflow\t10\t10\t0\t1\t2\t9\n"
+
 pub record Premises : Type 0 where
   pub of-p1 : Verdicts p1 true true
   pub of-p5 : Verdicts p5 true true
@@ -56,9 +63,11 @@ pub record Premises : Type 0 where
   pub of-p8 : Verdicts p8 true true
   pub of-ties : Verdicts ties true true
   pub of-tight : Verdicts tight false true
+  pub of-l1 : Verdicts l1 true true
+  pub of-l2 : Verdicts l2 true true
 
 pub premises : Premises
-unfolding bytes same lines ended fields allDigits valueFrom isNumber allNumbers valuesOf wellFormed numbersOf twice flowFault flowsFault recordFault flowOf withFlow firstLineFault flowLineFault readFlows setOf readLines readText conflictWork share overOthers boundWith basicBound valueAt deadlines lowered roundTo roundsIn reached tightBound admits verdictOf sumTo anyTo allTo used anyOf meet listTo ones onesIn
+unfolding bytes same lines ended fields allDigits valueFrom isNumber allNumbers valuesOf wellFormed numbersOf repeatAt flowFault flowsFault recordFault flowOf withFlow firstLineFault flowLineFault readFlows setOf readLines readText conflictWork share overOthers boundWith basicBound valueAt deadlines lowered roundTo roundsIn reached tightBound admits verdictOf sumTo anyTo allTo used anyOf meet listTo ones onesIn
 premises =
     record {
       of-p1 = record { read = refl; by-basic = refl; by-tightened = refl };
@@ -67,6 +76,8 @@ premises =
       of-p8 = record { read = refl; by-basic = refl; by-tightened = refl };
       of-ties = record { read = refl; by-basic = refl; by-tightened = refl };
       of-tight = record { read = refl; by-basic = refl; by-tightened = refl };
+      of-l1 = record { read = refl; by-basic = refl; by-tightened = refl };
+      of-l2 = record { read = refl; by-basic = refl; by-tightened = refl };
     }
 
 -- a set that both tests admit keeps both bounds to the last slot there is
@@ -85,3 +96,9 @@ p1-kept = kept-always p1 (premises .of-p1)
 
 pub ties-kept : KeptAlways ties
 ties-kept = kept-always ties (premises .of-ties)
+
+pub l1-kept : KeptAlways l1
+l1-kept = kept-always l1 (premises .of-l1)
+
+pub l2-kept : KeptAlways l2
+l2-kept = kept-always l2 (premises .of-l2)

@@ -1,6 +1,6 @@
 -- What the promise excludes: each of these machines breaks it on a named set that a test admits. The checker computes the slots in question.
 use mathlib.Core.Path.{_≡_, refl, sym, ap, _∙_}
-use mathlib.Core.Bool.{Bool, true, false, false≢true}
+use mathlib.Core.Bool.{Bool, true, false, not, _&&_, false≢true}
 use Prim.Native.Nat.{ℕ, zero, suc, _+_, _-_, _*_, _/_, _%_, _≤_, _<_}
 use Prim.Native.String as string
 use native.Mathlib.Decide.{decLe}
@@ -8,15 +8,16 @@ use native.Mathlib.Omega.{arith}
 use borrow.Author.Tests.{lt-ltb, le-ltb}
 use lib.ListN.{getD}
 use lib.Count.{ones, onesIn}
+use Rattle.model.specs.declared.kinds.Flow.{Flow}
 use Rattle.model.specs.declared.kinds.FlowSet.{FlowSet}
 use Rattle.model.specs.declared.kinds.State.{State}
 use Rattle.model.specs.Limits.{lastSlot}
 use Rattle.model.specs.Refusals.{good}
-use Rattle.model.specs.Sums.{sumTo, anyTo, allTo}
-use Rattle.model.specs.Sets.{freshState, flowAt, memb, used, anyOf, meet, listTo, filterTo}
+use Rattle.model.specs.Sums.{bit, sumTo, anyTo, allTo}
+use Rattle.model.specs.Sets.{freshState, flowAt, links, memb, used, anyOf, meet, listTo, filterTo}
 use Rattle.document.specs.Text.{same, lines, ended, fields, allDigits, valueFrom, isNumber, allNumbers, valuesOf, wellFormed, numbersOf}
-use Rattle.document.specs.Reader.{twice, flowFault, flowsFault, recordFault, flowOf, withFlow, firstLineFault, flowLineFault, readFlows, setOf, readLines, readText}
-use Rattle.document.specs.Delay.{ways, period, workAt, conflictWork, share, overOthers, boundWith, basicBound, valueAt, deadlines, lowered, roundTo, roundsIn, reached, tightBound, admits, verdictOf, boundsFault, boundsOf}
+use Rattle.document.specs.Reader.{repeatAt, flowFault, flowsFault, recordFault, flowOf, withFlow, firstLineFault, flowLineFault, readFlows, setOf, readLines, readText}
+use Rattle.document.specs.Delay.{ways, period, workAt, link, touches, wholePackets, remainder, wholeShare, joined, conflictWork, share, overOthers, boundWith, basicBound, valueAt, deadlines, lowered, roundTo, roundsIn, reached, tightBound, admits, verdictOf, boundsFault, boundsOf}
 use Rattle.document.specs.Machine.{release, channels, ready, nextCount, insert, ordered, place, channelsTo, radioChannel, sendOf, sendsFrom, deliveriesOf, badState, stepFault, stepOf, countWith, deliveredWith, droppedWith, nextWith, placedWith, stepWith}
 use Rattle.document.specs.Table.{bytes}
 use Rattle.promise.specs.Promise.{SlotMachine, report, send, Is, Made, Kept, Test, PromiseOf, basic, tightened, Promise}
@@ -24,10 +25,21 @@ use Rattle.promise.specs.DeadlineOrder.{deadline-order}
 use Rattle.promise.specs.RunStates.{report-slot}
 use Rattle.promise.specs.TextHeld.{text-passes}
 use Rattle.promise.specs.Demand.{text-promise}
-use Rattle.promise.specs.Named.{setFrom, Verdicts, p5, p7, p8, tight, premises}
+use Rattle.promise.specs.Named.{setFrom, Verdicts, p5, p7, p8, l2, tight, premises}
 use Rattle.promise.specs.Machines.{idle, tiring, choosing, reckless, crowded, backward, altering, crossed, strayed, looped, fanned, gathered, answered, turned, misled, mistried, hurried, misdated}
 
--- what is computed of P5, of P8 and of slots of these machines
+-- The other reading of S: a link of l's route counts only where no earlier link of the route is the same. The basic bound by it:
+unfoldable pub differentLinks : Flow → Flow → ℕ
+differentLinks k l = l .tries * sumTo (λ i. bit (touches k l i && not (anyTo (λ j. same (link l j) (link l i)) i))) (links l)
+
+unfoldable pub differentBound : FlowSet → ℕ → ℕ
+differentBound s k =
+    joined (workAt s k)
+    (overOthers s k (λ l. share (wholePackets s k l) (differentLinks (flowAt s k) (flowAt s l)) (remainder s k l)))
+    (overOthers s k (wholeShare s (remainder s k) k))
+    (ways s)
+
+-- what is computed of P5, of P8, of L2 and of slots of these machines
 record OfP5 (s : FlowSet) : Type 0 where
   flows : s .count ≡ 2
   one-way : ways s ≡ 1
@@ -51,9 +63,18 @@ record OfP8 (s : FlowSet) : Type 0 where
   lead : (report misled s 0 .sends ≡ 1) × (send (report misled s 0) 0 .to ≡ 3)
   date : (report misdated s 0 .sends ≡ 1) × (send (report misdated s 0) 0 .slot .0 ≡ 1)
 
+record OfL2 (s : FlowSet) : Type 0 where
+  flows : s .count ≡ 2
+  one : (workAt s 1 ≡ 1) × (release (flowAt s 1) 0 ≡ 0)
+  slot-0 : (report stepOf s 0 .sends ≡ 1) × (send (report stepOf s 0) 0 .flow ≡ 0)
+  slot-1 : (report stepOf s 1 .sends ≡ 1) × (send (report stepOf s 1) 0 .flow ≡ 0)
+  slot-2 : (report stepOf s 2 .sends ≡ 1) × (send (report stepOf s 2) 0 .flow ≡ 0)
+  three : differentBound s 1 ≡ 3
+
 record Computed : Type 0 where
   of-p5 : OfP5 (setFrom p5)
   of-p8 : OfP8 (setFrom p8)
+  of-l2 : OfL2 (setFrom l2)
   met : (report reckless (setFrom p7) 0 .sends ≡ 2) × (send (report reckless (setFrom p7) 0) 0 .to ≡ send (report reckless (setFrom p7) 0) 1 .from)
   fan : (report fanned (setFrom p7) 0 .sends ≡ 2) × (send (report fanned (setFrom p7) 0) 0 .from ≡ send (report fanned (setFrom p7) 0) 1 .from)
   answer : (report answered (setFrom p7) 0 .sends ≡ 2) × (send (report answered (setFrom p7) 0) 0 .from ≡ send (report answered (setFrom p7) 0) 1 .to)
@@ -62,7 +83,7 @@ record Computed : Type 0 where
   lost : report backward (setFrom tight) 1 .drops ≡ 1
 
 computed : Computed
-unfolding report choosing altering bytes same lines ended fields allDigits valueFrom isNumber allNumbers valuesOf wellFormed numbersOf twice flowFault flowsFault recordFault flowOf withFlow firstLineFault flowLineFault readFlows setOf readLines readText conflictWork share overOthers boundWith basicBound valueAt deadlines lowered roundTo roundsIn reached tightBound admits verdictOf boundsFault boundsOf ready nextCount insert ordered place placedWith channelsTo radioChannel sendOf sendsFrom countWith deliveredWith deliveriesOf droppedWith nextWith badState stepFault stepWith sumTo anyTo allTo used anyOf meet listTo filterTo ones onesIn
+unfolding differentLinks differentBound report choosing altering bytes same lines ended fields allDigits valueFrom isNumber allNumbers valuesOf wellFormed numbersOf repeatAt flowFault flowsFault recordFault flowOf withFlow firstLineFault flowLineFault readFlows setOf readLines readText conflictWork share overOthers boundWith basicBound valueAt deadlines lowered roundTo roundsIn reached tightBound admits verdictOf boundsFault boundsOf ready nextCount insert ordered place placedWith channelsTo radioChannel sendOf sendsFrom countWith deliveredWith deliveriesOf droppedWith nextWith badState stepFault stepWith sumTo anyTo allTo used anyOf meet listTo filterTo ones onesIn
 computed =
     record {
       of-p5 =
@@ -90,6 +111,15 @@ computed =
             lead = (refl, refl);
             date = (refl, refl);
           };
+      of-l2 =
+          record {
+            flows = refl;
+            one = (refl, refl);
+            slot-0 = (refl, refl);
+            slot-1 = (refl, refl);
+            slot-2 = (refl, refl);
+            three = refl;
+          };
       met = (refl, refl);
       fan = (refl, refl);
       answer = (refl, refl);
@@ -107,6 +137,14 @@ unmade M s k j b e f m =
     let w = m .within 0 z in
     let x = m .sent 0 z in
     f (m .at 0) (x .0) (w .0) (w .1) (x .1) (x .2 .which .1)
+
+-- where slot t of document 01's machine sends flow 0 alone, it does not send flow 1
+sole : (s : FlowSet) (t p : ℕ) → (report stepOf s t .sends ≡ 1) × (send (report stepOf s t) 0 .flow ≡ 0)
+    → p < report stepOf s t .sends → send (report stepOf s t) p .flow ≡ 1 → ⊥
+sole s t p w i e =
+    let q : p ≡ 0 = omega arith in
+    let y = rw q at e in
+    omega arith
 
 -- the same test with bounds one less
 abbrev pub oneLess : Test → Test
@@ -186,12 +224,8 @@ bounds-exact = (
 )
   where
     first : (t p : ℕ) → t < 1 → p < report stepOf (setFrom p5) t .sends → send (report stepOf (setFrom p5) t) p .flow ≡ 1 → ⊥
-    first t p h i e =
-        let c = computed .of-p5 .own in
-        let z : t ≡ 0 = omega arith in
-        let q : p ≡ 0 = omega (arith, ap (λ (u : ℕ). report stepOf (setFrom p5) u .sends) z) in
-        let y = rw (z, q) at e in
-        omega arith
+    first zero p h i e = sole (setFrom p5) 0 p (computed .of-p5 .own) i e
+    first (suc t) p h i e = omega arith
 
     exact : (test : Test) → test .bound (setFrom p5) 1 ≡ 2 → Kept stepOf (setFrom p5) (oneLess test .bound (setFrom p5)) 1 → ⊥
     exact test b k =
@@ -199,6 +233,26 @@ bounds-exact = (
         let a = c .releases in
         unmade stepOf (setFrom p5) 1 0 (oneLess test .bound (setFrom p5) 1) (c .works .1) (λ t p h l i e. first t p (omega arith) i e)
         (k .made 1 0 (omega (arith, c .flows)) (omega arith))
+
+-- Nor is 3 a bound of L2's flow 1: three links of flow 0 go before it, though two of them are the same. So S counts a link for each place that it
+-- has in the route, and the promise would not hold with the links that differ.
+pub three-refuted : (bound : ℕ → ℕ) → bound 1 ≡ 3 → Kept stepOf (setFrom l2) bound 4 → ⊥
+three-refuted bound b k =
+    let c = computed .of-l2 in
+    unmade stepOf (setFrom l2) 1 0 (bound 1) (c .one .0) (λ t p h l i e. only-flow-0 t p (omega (arith, c .one .1)) i e)
+    (k .made 1 0 (omega (arith, c .flows)) (omega (arith, c .one .1)))
+  where
+    only-flow-0 : (t p : ℕ) → t < 3 → p < report stepOf (setFrom l2) t .sends → send (report stepOf (setFrom l2) t) p .flow ≡ 1 → ⊥
+    only-flow-0 zero p h i e = sole (setFrom l2) 0 p (computed .of-l2 .slot-0) i e
+    only-flow-0 (suc zero) p h i e = sole (setFrom l2) 1 p (computed .of-l2 .slot-1) i e
+    only-flow-0 (suc (suc zero)) p h i e = sole (setFrom l2) 2 p (computed .of-l2 .slot-2) i e
+    only-flow-0 (suc (suc (suc t))) p h i e = omega arith
+
+pub different-links-refuted : PromiseOf (record { admits = basic .admits; bound = differentBound }) stepOf → ⊥
+different-links-refuted f =
+    let j = premises .of-l2 in
+    three-refuted _ (computed .of-l2 .three)
+    (text-promise (record { admits = basic .admits; bound = differentBound }) stepOf f (bytes l2) (j .read) (j .by-basic) 4 (omega arith))
 
 -- The machine that does not count channels: it sends two flows of P5 on one.
 pub crowded-refuted : Promise crowded → ⊥

@@ -1,10 +1,10 @@
--- With any order of priority no slot of the run uses a node or a channel twice: placed links share no node, a link's ends differ since a route has
--- no node twice, and the offsets of a slot are fewer than the channels and so stand for different ones.
-use mathlib.Core.Path.{_≡_, refl, sym, _∙_}
+-- With any order of priority no slot of the run uses a node or a channel twice: placed links share no node, a link's ends differ since they are
+-- neighbours in a route, and the offsets of a slot are fewer than the channels and so stand for different ones.
+use mathlib.Core.Path.{_≡_, sym, _∙_}
 use mathlib.Core.Logic.{_≢_}
-use mathlib.Core.Bool.{Bool, true, false, false≢true}
-use mathlib.Core.List.{List, [], _∷_}
-use Prim.Native.Nat.{ℕ, zero, suc, _+_, _/_, _^_, _<_}
+use mathlib.Core.Bool.{true, false, false≢true}
+use mathlib.Core.List.{List}
+use Prim.Native.Nat.{ℕ, _+_, _/_, _^_, _<_}
 use native.Mathlib.Nat.{div-lt-iff-lt-mul}
 use native.Mathlib.Omega.{arith}
 use lib.ListN.{length, getD, take, drop, length-take, length-drop}
@@ -12,10 +12,9 @@ use Rattle.model.specs.declared.kinds.FlowSet.{FlowSet}
 use Rattle.model.specs.Limits.{mostChannels, lastSlot}
 use Rattle.model.specs.Refusals.{good}
 use Rattle.model.specs.Sets.{flowAt, memb, meet, links}
-use Rattle.document.specs.Reader.{twice, recordFault}
+use Rattle.document.specs.Reader.{recordFault}
 use Rattle.document.specs.Machine.{Priority, hadAt, linkAt, placedWith, sendOf, stepWith}
-use Rattle.laws.specs.SumLaws.{or-l, or-r}
-use Rattle.laws.specs.Accepted.{accepted}
+use Rattle.laws.specs.Accepted.{accepted, neighbours-differ}
 use Rattle.laws.specs.RadioChannels.{radio-own, radio-apart}
 use Rattle.laws.specs.Members.{memb-at}
 use Rattle.promise.specs.Promise.{report, Apart}
@@ -23,19 +22,6 @@ use Rattle.promise.specs.SlotChoice.{Ordering}
 use Rattle.promise.specs.RunStates.{stateAt, choice, ready-case}
 use Rattle.promise.specs.Timetable.{meet-by, some-way}
 use Rattle.promise.specs.Reports.{link-from, link-to, sends-eq, sends-le, send-eq, sent-placed}
-
--- a list with no number twice has different ones at different places
-once-at : (r : List ℕ) (x y : ℕ) → twice r ≡ false → x < y → y < length r → getD r x 0 ≢ getD r y 0
-unfolding twice
-once-at [] x y n h l e = omega arith
-once-at (a ∷ r) x zero n h l e = omega arith
-once-at (a ∷ r) zero (suc y) n h l e =
-    false≢true (sym n ∙ or-l (memb a r) (twice r) (rw e (memb-at r y (omega arith))))
-once-at (a ∷ r) (suc x) (suc y) n h l e = once-at r x y (rest (twice r) refl) (omega arith) (omega arith) e
-  where
-    rest : (b : Bool) → twice r ≡ b → b ≡ false
-    rest false q = refl
-    rest true q = sym (or-r (memb a r) (twice r) q) ∙ n
 
 -- numbers of lists that do not meet differ
 apart-at : (a b : List ℕ) (i j : ℕ) → meet a b ≡ false → i < length a → j < length b → getD b j 0 ≢ getD a i 0
@@ -85,8 +71,8 @@ module _ {first : Priority} (o : Ordering first) where
             let i = hadAt s (stateAt first s t) (flow p) / flowAt s (flow p) .tries in
             let r = flowAt s (flow p) .route in
             let b = sent-placed o s g t p h l in
-            once-at r i (i + 1) (accepted s g .flow (flow p) (choice o s (stateAt first s t) .only (flow p) b .0) .once) (omega arith)
-            (placed-link t (flow p) b) (sym (link-from r i) ∙ e ∙ link-to r i)
+            neighbours-differ s g (flow p) i (choice o s (stateAt first s t) .only (flow p) b .0) (placed-link t (flow p) b)
+            (sym (link-from r i) ∙ e ∙ link-to r i)
 
         nodes : (p q : ℕ) → p < q → q < report (stepWith first) s t .sends
             → (getD (linkAt s (stateAt first s t) (flow p)) 0 0 ≢ getD (linkAt s (stateAt first s t) (flow q)) 0 0)

@@ -6,15 +6,19 @@ use Prim.Native.Nat.{ℕ, zero, suc, _-_, _*_, _≤_}
 use native.Mathlib.Omega.{arith}
 use borrow.Author.Tests.{ne-eqb, le-ltb, ltb-false}
 use lib.Dec.{eqb, ltb}
+use lib.ListN.{length}
 use Rattle.model.specs.declared.answers.Refusal.{Refusal}
-use Rattle.model.specs.declared.answers.Refusal.the-variants.{Nothing, BadRoute, NodeTwice, TooMuchWork}
+use Rattle.model.specs.declared.answers.Refusal.the-variants.{Nothing, BadRoute, EqualNeighbours, TooMuchWork}
 use Rattle.model.specs.Limits.{mostNodes}
-use Rattle.document.specs.Reader.{twice}
+use Rattle.document.specs.Reader.{repeatAt}
 use Rattle.laws.specs.SumLaws.{neither}
 
 -- rules 7 to 9
 unfoldable pub routeFault : ℕ → ℕ → ℕ → List ℕ → Refusal
-routeFault d c n r = cond (ltb n 2 || ltb mostNodes n) BadRoute (cond (twice r) NodeTwice (cond (ltb d ((n - 1) * c)) TooMuchWork Nothing))
+routeFault d c n r =
+    cond (ltb n 2 || ltb mostNodes n) BadRoute
+    (cond (ltb (repeatAt r) (length r)) EqualNeighbours
+    (cond (ltb d ((n - 1) * c)) TooMuchWork Nothing))
 
 -- a number that must be 1 to m: to be 0 is to be below 1
 pub from-one : (x m : ℕ) (r b : Bool) → r ≡ (ltb x 1 || ltb m x) → r ≡ b → (eqb x 0 || ltb m x) ≡ b

@@ -10,7 +10,7 @@ ghost use Rattle.model.specs.Sets.{exact, used};
 
 mod route;
 
-use crate::route::repeats;
+use crate::route::repeat_at;
 use model::Fault;
 use model::Flow;
 use model::FlowSet;
@@ -33,8 +33,8 @@ fn route_fault(deadline: u16, tries: u16, nodes: usize, route: [u16; Flow::MOST_
     if outside(nodes, 2, Flow::MOST_NODES) {
         return Refusal::BadRoute;
     }
-    if repeats(route, nodes) {
-        return Refusal::NodeTwice;
+    if repeat_at(route, nodes) < nodes {
+        return Refusal::EqualNeighbours;
     }
     let work = (nodes - 1) * (tries as usize);
     if (deadline as usize) < work {

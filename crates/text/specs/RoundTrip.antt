@@ -11,7 +11,7 @@ use Rattle.model.specs.declared.kinds.FlowSet.{FlowSet}
 use Rattle.model.specs.Limits.{mostFlows, mostNodes}
 use Rattle.model.specs.Refusals.{good}
 use Rattle.model.specs.Sets.{noFlow, used, anyOf}
-use Rattle.document.specs.Reader.{ReadAgain, twice, flowFault, flowsFault, recordFault, flowLines, readText, textOf}
+use Rattle.document.specs.Reader.{ReadAgain, repeatAt, flowFault, flowsFault, recordFault, flowLines, readText, textOf}
 use Rattle.document.specs.Text.{decimalIn, decimal, tabbed, decimals, lineOf}
 use Rattle.text.specs.ReadThenWritten.{longestText, read-written, read-length}
 use Rattle.text.specs.WrittenLines.{small}
@@ -62,7 +62,7 @@ long-held =
     }
 
 long-good : good (recordFault (used longSet) .refusal) ≡ true
-unfolding longSet longFlow recordFault flowsFault flowFault twice anyOf used
+unfolding longSet longFlow recordFault flowsFault flowFault repeatAt anyOf used
 long-good = refl
 
 long-length : length (textOf (used longSet)) ≡ longestText

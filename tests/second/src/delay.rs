@@ -161,6 +161,8 @@ impl<const SLIP: u8> PlannerWith<SLIP> {
         let mut planner = PlannerWith { count: flows.len(), m: set.m(), c, deadline, period, others };
         if SLIP == slip::COMMON_LINKS {
             slip::common_links(flows, &mut planner.others);
+        } else if SLIP == slip::LINK_ONCE {
+            slip::link_once(flows, &mut planner.others);
         } else if flows.len() > 1 {
             conflicts(flows, &mut planner.others);
         }
@@ -192,7 +194,8 @@ impl<const SLIP: u8> PlannerWith<SLIP> {
         u32::from(self.deadline[k] / self.period[l])
     }
 
-    /// S of the flows k and l ≠ k: κ of l times the number of l's links that have an end on k's route. 0 for k = l.
+    /// S of the flows k and l ≠ k: κ of l times the number of l's links that have an end on k's route, each link once for
+    /// each place it has there. 0 for k = l.
     /// Panics where k or l is no flow of the set, as `shares` and `value` do.
     pub fn s(&self, k: usize, l: usize) -> u32 {
         u32::from(self.others[k].s[l])
@@ -274,7 +277,8 @@ impl<const SLIP: u8> PlannerWith<SLIP> {
 }
 
 /// S of every pair: `others[k].s[l]`. The flows that a link counts for are those whose routes have one of its two ends,
-/// so each route is searched once and not once for each flow.
+/// so each route is searched once and not once for each flow. A link that stands again in l's route counts again there;
+/// how often k's route has its ends makes no difference, one bit says that it has.
 fn conflicts(flows: &[Flow], others: &mut [Others]) {
     let mut users = Users::room(flows);
     let places: Vec<_> = flows.iter().enumerate().map(|(k, flow)| users.enter(k, flow)).collect();

@@ -1,5 +1,5 @@
-//! The second planner: document 01 written once more from its words alone, plainly, to be compared with the proved
-//! planner and to measure its speed by. Nothing here is shared with the planner under test.
+//! The second planner: document 01, with what document 02 changes of it, written once more from the words alone, plainly,
+//! to be compared with the proved planner and to measure its speed by. Nothing here is shared with the planner under test.
 //!
 //! One section of document 01 stands in one module: the flow set in [`record`], refusals in [`check`] and [`read`],
 //! the writer in [`write`], the two delay tests in [`delay`], the slot machine in [`machine`], what C sees in

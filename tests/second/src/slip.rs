@@ -1,6 +1,7 @@
 //! Wrong rules, put in one at a time: the tests of the tests. Document 01's "Easy slips", then what its first section
-//! says "this paper decides". A slip is a constant of the types [`PlannerWith`] and
-//! [`MachineWith`](crate::machine::MachineWith), so the right rules ([`NONE`]) pay nothing for them.
+//! says "this paper decides", then what could be taken for request 1 of document 02. A slip is a constant of the types
+//! [`PlannerWith`] and [`MachineWith`](crate::machine::MachineWith), or of [`check_with`](crate::check::check_with), so
+//! the right rules ([`NONE`]) pay nothing for them.
 
 use crate::delay::{Others, PlannerWith};
 use crate::record::{Flow, MOST_FLOWS};
@@ -33,6 +34,10 @@ pub const KEEP_LATE: u8 = 10;
 pub const KEEP_COUNT: u8 = 11;
 /// The radio channel is the one at place offset, whatever the slot.
 pub const STILL_CHANNELS: u8 = 12;
+/// S counts a link once, however often it stands in l's route.
+pub const LINK_ONCE: u8 = 14;
+/// Refusal 8 is given for a node that stands anywhere earlier in the route.
+pub const NODE_TWICE: u8 = 15;
 
 /// Whether a slip is one of the equation's.
 pub(crate) const fn changes_value(slip: u8) -> bool {
@@ -87,4 +92,21 @@ pub(crate) fn common_links(flows: &[Flow], others: &mut [Others]) {
             other.s[l] = flow.tries * common as u16;
         }
     }
+}
+
+/// S of every pair, a link that stood earlier in the route counted no more.
+pub(crate) fn link_once(flows: &[Flow], others: &mut [Others]) {
+    for (k, other) in others.iter_mut().enumerate() {
+        for (l, flow) in flows.iter().enumerate().filter(|&(l, _)| l != k) {
+            let links: Vec<&[u16]> = flow.used().windows(2).collect();
+            let touches = |link: &[u16]| link.iter().any(|end| flows[k].used().contains(end));
+            let counted = (0..links.len()).filter(|&i| touches(links[i]) && !links[..i].contains(&links[i])).count();
+            other.s[l] = flow.tries * counted as u16;
+        }
+    }
+}
+
+/// Whether a node stands anywhere earlier in the route.
+pub(crate) fn node_twice(route: &[u16]) -> bool {
+    (1..route.len()).any(|i| route[..i].contains(&route[i]))
 }

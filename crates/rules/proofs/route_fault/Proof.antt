@@ -8,7 +8,10 @@ use native.Mathlib.Omega.{arith}
 use borrow.Author.Needs.{needs}
 use borrow.Author.Tests.{lt-ltb, le-ltb}
 use lib.Dec.{lit<, ltb}
+use lib.ListN.{length, take}
+use lib.Seq.{length-take-le}
 use Rattle.model.specs.Limits.{mostNodes, mostLinks}
+use Rattle.document.specs.Reader.{repeatAt}
 use Rattle.rules.specs.Rules.{routeFault, inside}
 use Rattle.rules.proofs.route_fault.Statement.{statement}
 use Rattle.rules.proofs.route_fault.Tie as tie
@@ -24,9 +27,32 @@ returns : tie.Need-returns
 unfolding routeFault
 returns c = simp (bad-route c)
 
+-- the nodes of a route that rule 7 lets pass are all in the array
+all-nodes : (c : tie.Else1) → let a = c .before .before .args in length (take (a .nodes) (a .route)) ≡ a .nodes
+all-nodes c =
+    let a = c .before .before .args in
+    let w = inside (a .nodes) 2 mostNodes (some-route c) in
+    let l : length (a .route) ≡ mostNodes = search needs in
+    length-take-le (a .nodes) (a .route) (omega arith)
+
+-- rule 8 refuses, or not
+equal-nodes : (c : tie.Then2)
+    → let a = c .before .before .before .before .args in ltb (repeatAt (take (a .nodes) (a .route))) (length (take (a .nodes) (a .route))) ≡ true
+equal-nodes c =
+    let a = c .before .before .before .before .args in
+    let r = take (a .nodes) (a .route) in
+    lt-ltb (repeatAt r) (length r) (omega (arith, c .before .repeat-at .ensures, all-nodes (c .before .before)))
+
+no-equal-nodes : (c : tie.Else2)
+    → let a = c .before .before .before .before .args in ltb (repeatAt (take (a .nodes) (a .route))) (length (take (a .nodes) (a .route))) ≡ false
+no-equal-nodes c =
+    let a = c .before .before .before .before .args in
+    let r = take (a .nodes) (a .route) in
+    le-ltb (repeatAt r) (length r) (omega (arith, c .before .repeat-at .ensures, all-nodes (c .before .before)))
+
 returns-2 : tie.Need-returns-2
 unfolding routeFault
-returns-2 c = simp (some-route (c .before .before), sym (c .before .repeats .ensures) ∙ c .if2 .taken)
+returns-2 c = simp (some-route (c .before .before), equal-nodes c)
 
 sub-work : tie.Need-sub-work
 sub-work c =
@@ -47,14 +73,12 @@ too-much c = c .if3 .taken
 returns-3 : tie.Need-returns-3
 unfolding routeFault
 returns-3 c =
-    let j = c .before in
-    simp (some-route (j .before .before), sym (j .before .repeats .ensures) ∙ j .if2 .left, lt-ltb _ _ (too-much c))
+    simp (some-route (c .before .before .before), no-equal-nodes (c .before), lt-ltb _ _ (too-much c))
 
 returns-4 : tie.Need-returns-4
 unfolding routeFault
 returns-4 c =
-    let j = c .before in
-    simp (some-route (j .before .before), sym (j .before .repeats .ensures) ∙ j .if2 .left, le-ltb _ _ (c .if3 .left))
+    simp (some-route (c .before .before .before), no-equal-nodes (c .before), le-ltb _ _ (c .if3 .left))
 
 pub route-fault-spec : {M : Type 1} → statement M
 route-fault-spec =

@@ -201,6 +201,7 @@ struct Inputs {
     nursery: Input,
     alike: Input,
     full: Input,
+    loops: Input,
     ring: Input,
     spread: Input,
     busy: Input,
@@ -217,6 +218,7 @@ impl Inputs {
             nursery: Input::new("the nursery, 14 flows", second::read(&nursery).set),
             alike: Input::new("9 flows of 17 nodes alike modulo 256", sets::alike(9)),
             full: Input::new("64 flows of 17 nodes", few(64)),
+            loops: Input::new("64 loops of 17 nodes, out and back over the same", sets::loops()),
             ring: Input::new(format!("the ring, 64 flows, {rounds} rounds"), ring64()),
             spread: Input::new("64 flows of one link, 6 % of the slots busy", sets::spread(1024, 16)),
             busy: Input::new("64 flows, 16 sends a slot", sets::busy()),
@@ -226,7 +228,7 @@ impl Inputs {
 }
 
 fn verdicts<'a>(rows: &mut Vec<Row<'a>>, inputs: &'a Inputs) {
-    for input in [&inputs.one, &inputs.eight, &inputs.nursery, &inputs.alike, &inputs.full, &inputs.ring] {
+    for input in [&inputs.one, &inputs.eight, &inputs.nursery, &inputs.alike, &inputs.full, &inputs.loops, &inputs.ring] {
         let text = &input.text;
         rows.push(Row::new(
             format!("verdict: {}", input.name),

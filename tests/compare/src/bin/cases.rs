@@ -56,6 +56,15 @@ fn record_case(map: u16, count: u16, nodes: u16) {
     written(&format!("record\t{map}\t{count}\t{nodes}"), &set, 4096);
 }
 
+/// One flow 1-LAST whose array goes on with these nodes behind the last one, of which this many count.
+fn behind_case(last: u16, behind: u16, nodes: u16) {
+    let mut set = small();
+    set.flows[0].nodes = nodes;
+    set.flows[0].route = [behind; 17];
+    set.flows[0].route[..2].copy_from_slice(&[1, last]);
+    written(&format!("behind\t{last}\t{behind}\t{nodes}"), &set, 4096);
+}
+
 fn main() {
     let mut table = Vec::new();
     std::io::stdin().read_to_end(&mut table).expect("the table is read");
@@ -70,5 +79,10 @@ fn main() {
     let shapes = [(0, 0, 3), (0, 1, 18), (3, 0, 3), (3, 1, 1), (3, 1, 2), (3, 1, 3), (3, 1, 18), (3, 1, 65535), (3, 64, 3), (3, 65, 3), (3, 70, 3), (3, 70, 18)];
     for (map, count, nodes) in shapes {
         record_case(map, count, nodes);
+    }
+    for (last, behind) in [(2, 2), (0, 0), (2, 1)] {
+        for nodes in [2, 3, 4] {
+            behind_case(last, behind, nodes);
+        }
     }
 }

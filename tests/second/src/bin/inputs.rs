@@ -1,5 +1,5 @@
-//! Prints, for a seed and a number of draws, how often each refusal was made of the inputs drawn:
-//! `inputs [seed] [draws]`. Refusal 0 is "accepted".
+//! Prints, for a seed and a number of draws, how many of the sets drawn have a route that comes back to a node, and how
+//! often each refusal was made of the inputs drawn: `inputs [seed] [draws]`. Refusal 0 is "accepted".
 
 use second::host::{bound_of_text, step_of_text};
 use second::inputs::{records, sets, texts, Rng};
@@ -14,6 +14,9 @@ fn main() {
     let mut numbers = std::env::args().skip(1).map(|word| word.parse::<u64>().expect("a whole number"));
     let (seed, draws) = (numbers.next().unwrap_or(1), numbers.next().unwrap_or(2_000));
     println!("seed\t{seed}\tdraws\t{draws}");
+    let mut rng = Rng::new(seed);
+    let returning = (0..draws).filter(|_| sets::returns(&sets::any(&mut rng))).count();
+    println!("sets\t{draws}\twith a returning node\t{returning}");
     let kinds: [(&str, Kind); 6] = [
         ("text", |rng| read(&texts::any(rng)).refusal),
         ("record", |rng| check(&records::record(rng))),

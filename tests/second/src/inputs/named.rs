@@ -1,5 +1,5 @@
 //! Sets with a name and with answers found by hand: what sets drawn from a seed seldom or never have. `text` is the set;
-//! the comments say how its answers follow from document 01.
+//! the comments say how its answers follow from document 01, and from request 1 of document 02 for routes that return.
 
 /// A set and what is said of it.
 pub struct Named {
@@ -25,6 +25,11 @@ pub fn sets() -> Vec<Named> {
         alike_modulo_256(),
         starts_and_delays(),
         tries_beside_another(),
+        out_and_back_alone(),
+        out_and_back_beside_another(),
+        a_link_again(),
+        two_nodes_to_and_fro(),
+        loops_alike(),
     ]
 }
 
@@ -122,6 +127,68 @@ fn tries_beside_another() -> Named {
     }
 }
 
+/// P11, as request 1 has it: two links of two tries, one after the other.
+fn out_and_back_alone() -> Named {
+    Named {
+        name: "P11, a route out and back",
+        text: "set\t1\nflow\t10\t4\t0\t2\t1\t2\t1\n".into(),
+        verdict: (true, true, 1),
+        bounds: vec![(0, 4, 4)],
+        delivered: Some(vec![(3, 0, 4)]),
+    }
+}
+
+/// All four links of flow 0 have node 2, and so has the one of flow 1: 4 + 1 and 1 + 4. Flow 0 goes first by its number.
+fn out_and_back_beside_another() -> Named {
+    Named {
+        name: "a loop beside another flow",
+        text: "set\t3\nflow\t20\t20\t0\t1\t1\t2\t3\t2\t1\nflow\t20\t20\t0\t1\t4\t2\n".into(),
+        verdict: (true, true, 2),
+        bounds: vec![(0, 5, 5), (1, 5, 5)],
+        delivered: Some(vec![(3, 0, 4), (4, 1, 5)]),
+    }
+}
+
+/// The link 1-2 stands twice in flow 0's route, and counts twice: S is 3, and flow 1's bound 1 + 3. Flow 0's is 3 + 1; its
+/// remainder of 6 is gone once flow 1's entry has fallen to 4, 6 below the deadline, so the third round is the last. Flow
+/// 1 waits for all of flow 0's links, and its delay is its bound.
+fn a_link_again() -> Named {
+    Named {
+        name: "a link that stands twice in a route",
+        text: "set\t3\nflow\t10\t6\t0\t1\t1\t2\t1\t2\nflow\t10\t10\t0\t1\t2\t9\n".into(),
+        verdict: (true, true, 3),
+        bounds: vec![(0, 4, 3), (1, 4, 4)],
+        delivered: Some(vec![(2, 0, 3), (3, 1, 4)]),
+    }
+}
+
+/// 16 links of four tries between nodes 1 and 2, as many as a flow can have: 64 of 64 slots.
+fn two_nodes_to_and_fro() -> Named {
+    Named {
+        name: "17 nodes of two alternating ones",
+        text: format!("set\t1\nflow\t64\t64\t0\t4{}\t1\n", "\t1\t2".repeat(8)),
+        verdict: (true, true, 1),
+        bounds: vec![(0, 64, 64)],
+        delivered: Some(Vec::new()),
+    }
+}
+
+/// Three loops over multiples of 511, 1-2-1-2, 3-4-3 and 2-3-2 times that: these numbers are alike once the quotient by
+/// 512 is added to the remainder. Flows 0 and 1 have no node in common; of flow 2 both links touch both, and all of theirs
+/// touch flow 2: 3 + 2 + (4 − 2) / 2, and 2 + 2 + (5 − 2) / 2, and 2 + 5. Flows 0 and 1 have both channels in slots 0 and
+/// 1, flow 0 sends alone in slot 2 since node 1022 keeps flow 2 waiting, which has slots 3 and 4.
+fn loops_alike() -> Named {
+    let line = |nodes: &str| format!("flow\t20\t20\t0\t1\t{nodes}\n");
+    let (one, two, three) = (line("511\t1022\t511\t1022"), line("1533\t2044\t1533"), line("1022\t1533\t1022"));
+    Named {
+        name: "loops over multiples of 511",
+        text: format!("set\t3\n{one}{two}{three}"),
+        verdict: (true, true, 2),
+        bounds: vec![(0, 6, 6), (1, 5, 5), (2, 7, 7)],
+        delivered: Some(vec![(1, 1, 2), (2, 0, 3), (4, 2, 5)]),
+    }
+}
+
 /// Texts that are refused: what for, the text, number and line.
 pub fn refused() -> Vec<(&'static str, String, u8, u32)> {
     let flow = |fields: &str| format!("set\t1\nflow\t{fields}\n");
@@ -135,7 +202,14 @@ pub fn refused() -> Vec<(&'static str, String, u8, u32)> {
         ("no node", flow("9\t9\t0\t1"), 7, 2),
         ("one node", flow("9\t9\t0\t1\t1"), 7, 2),
         ("18 nodes", flow(&format!("99\t99\t0\t1{}", nodes(1, 1, 18))), 7, 2),
-        ("a node twice, alike with another modulo 64", flow("9\t9\t0\t1\t1\t65\t1"), 8, 2),
+        ("18 nodes of two alternating ones", flow(&format!("64\t64\t0\t4{}", "\t1\t2".repeat(9))), 7, 2),
+        ("18 nodes, the last two equal", flow(&format!("99\t99\t0\t1{}\t17", nodes(1, 1, 17))), 7, 2),
+        ("two equal nodes", flow("10\t4\t0\t1\t0\t0"), 8, 2),
+        ("two equal nodes first", flow("10\t4\t0\t2\t1\t1\t2"), 8, 2),
+        ("two equal nodes last", flow("10\t4\t0\t2\t1\t2\t2"), 8, 2),
+        ("two equal nodes between", flow("10\t9\t0\t1\t1\t2\t1\t1\t2\t1"), 8, 2),
+        ("two equal nodes, and C above D", flow("10\t1\t0\t1\t1\t2\t2"), 8, 2),
+        ("C one above D to and fro", flow(&format!("64\t63\t0\t4{}\t1", "\t1\t2".repeat(8))), 9, 2),
         ("C one above D", flow("9\t3\t0\t2\t1\t2\t3"), 9, 2),
     ]
 }

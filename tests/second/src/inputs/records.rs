@@ -2,9 +2,10 @@
 
 use super::{sets, Rng};
 use crate::host::bytes_of_state;
-use crate::record::{Flow, Set, State, LAST_SLOT, MOST_FLOWS};
+use crate::record::{Flow, Set, State, LAST_SLOT, MOST_FLOWS, MOST_NODES};
 
-/// Fills every entry beyond the count and beyond each route's end with anything: it is the same set still.
+/// Fills every entry beyond the count and beyond each route's end with anything: it is the same set still. Right behind a
+/// route's end its last node often stands once more, as a node that equals the one before it would.
 pub fn garbage(rng: &mut Rng, set: &mut Set) {
     let count = usize::from(set.count);
     for (k, flow) in set.flows.iter_mut().enumerate() {
@@ -12,8 +13,11 @@ pub fn garbage(rng: &mut Rng, set: &mut Set) {
             *flow = anything(rng);
             continue;
         }
-        for node in flow.route.iter_mut().skip(usize::from(flow.nodes)) {
-            *node = rng.word();
+        let end = flow.used().len();
+        let last = if end > 0 { flow.route[end - 1] } else { 0 };
+        let again = rng.pick(&[0, 1, 1, MOST_NODES]);
+        for (i, node) in flow.route[end..].iter_mut().enumerate() {
+            *node = if i < again { last } else { rng.word() };
         }
     }
 }
@@ -78,7 +82,12 @@ fn spoil(rng: &mut Rng, set: &mut Set) {
         1 => flow.deadline = rng.pick(&[0, flow.period.saturating_add(1), 65_535]),
         2 => flow.tries = rng.pick(&[0, 5, 256, 65_535]),
         3 => flow.nodes = rng.pick(&[0, 1, 18, 19, 255, 256, 65_535]),
-        4 => flow.route[flow.used().len().max(2) - 1] = flow.route[0],
+        4 => {
+            // a node that equals the one before it: the second, the last, or any
+            let last = flow.used().len().max(2) - 1;
+            let later = [1, last, rng.within(1, last)][rng.below(3)];
+            flow.route[later] = flow.route[later - 1];
+        }
         5 => flow.deadline = (flow.c() as u16).saturating_sub(1),
         _ => (flow.period, flow.tries) = (1, 4),
     }

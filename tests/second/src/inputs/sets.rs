@@ -1,5 +1,5 @@
 //! Flow sets that the reader accepts: small, large, tiny enough to try all lists, with deadlines on either side of a
-//! line, with bounds that a run attains, and the ring with the most rounds known.
+//! line, with bounds that a run attains, with routes that come back to a node, and the ring with the most rounds known.
 
 use super::Rng;
 use crate::delay::Planner;
@@ -22,16 +22,46 @@ pub struct Shape {
     pub periods: (usize, usize),
     /// Most start.
     pub start: usize,
+    /// Whether routes may come back to a node.
+    pub loops: bool,
 }
 
-/// A set of this shape.
+/// A set of this shape. With loops, in most sets some or all of the routes come back to a node.
 pub fn draw(rng: &mut Rng, shape: &Shape) -> Set {
     let mut set = Set { map: map(rng, shape.channels), ..Set::BLANK };
     set.count = rng.within(shape.flows.0, shape.flows.1) as u16;
+    // of four routes so many, where they are long enough
+    let returning = if shape.loops { rng.pick(&[0, 1, 2, 3, 4, 4]) } else { 0 };
     for k in 0..usize::from(set.count) {
-        set.flows[k] = flow(rng, shape);
+        let returns = returning > 0 && rng.below(4) < returning;
+        set.flows[k] = flow(rng, shape, returns);
+    }
+    if shape.loops {
+        renumber(rng, shape.pool, &mut set);
     }
     set
+}
+
+/// Whether a route of the set comes back to a node.
+pub fn returns(set: &Set) -> bool {
+    let again = |route: &[u16]| (0..route.len()).any(|i| route[i + 1..].contains(&route[i]));
+    set.used().iter().any(|flow| again(flow.used()))
+}
+
+/// Often gives the nodes other numbers, one to one: the greatest there are; numbers that are alike modulo 256; multiples
+/// of 511, which are alike once the quotient by 512 is added to the remainder; or every other node one of these. What
+/// sorts nodes by a few of their bits tells all, none or some of them apart.
+fn renumber(rng: &mut Rng, pool: usize, set: &mut Set) {
+    let number: fn(u16) -> u16 = match rng.below(8) {
+        0 => |node| 65_535 - node,
+        1 if pool <= 256 => |node| 256 * node + 7,
+        2 if pool <= 128 => |node| 511 * (node + 1),
+        3 if pool <= 128 => |node| if node % 2 == 0 { node } else { 511 * (node + 1) },
+        _ => return,
+    };
+    for flow in &mut set.flows[..usize::from(set.count)] {
+        flow.route[..usize::from(flow.nodes)].iter_mut().for_each(|node| *node = number(*node));
+    }
 }
 
 /// A channel map with some number of ones, anywhere.
@@ -45,9 +75,16 @@ fn map(rng: &mut Rng, channels: (usize, usize)) -> u16 {
 }
 
 /// A flow of this shape. Deadlines are often C or the period, where rules change sides.
-pub fn flow(rng: &mut Rng, shape: &Shape) -> Flow {
+fn flow(rng: &mut Rng, shape: &Shape, returns: bool) -> Flow {
     let mut flow = Flow { tries: rng.within(1, shape.tries) as u16, ..Flow::default() };
-    route(rng, &mut flow, lengths(shape), shape.pool);
+    let most = shape.nodes.1.min(MOST_NODES);
+    if returns && most > 2 {
+        let wanted = rng.within(shape.nodes.0.max(3), most);
+        come_back(rng, &mut flow, wanted, shape.pool);
+    } else {
+        let wanted = rng.within(shape.nodes.0, most.min(shape.pool));
+        different(rng, &mut flow, wanted, shape.pool);
+    }
     let c = flow.c() as usize;
     let period = rng.within(c.max(shape.periods.0), c.max(shape.periods.1));
     flow.period = period as u16;
@@ -60,21 +97,47 @@ pub fn flow(rng: &mut Rng, shape: &Shape) -> Flow {
     flow
 }
 
-/// How many nodes a route may have; never more than there are to draw from.
-fn lengths(shape: &Shape) -> (usize, usize) {
-    (shape.nodes.0, shape.nodes.1.min(shape.pool).min(MOST_NODES))
-}
-
-/// A route of different nodes out of the pool.
-fn route(rng: &mut Rng, flow: &mut Flow, nodes: (usize, usize), pool: usize) {
-    let wanted = rng.within(nodes.0, nodes.1);
+/// A route of so many different nodes out of the pool, which has as many.
+fn different(rng: &mut Rng, flow: &mut Flow, wanted: usize, pool: usize) {
     while usize::from(flow.nodes) < wanted {
         let node = rng.below(pool) as u16;
         if !flow.used().contains(&node) {
-            flow.route[usize::from(flow.nodes)] = node;
-            flow.nodes += 1;
+            put(flow, node);
         }
     }
+}
+
+/// A route of three nodes or more that comes back to a node: out and back over the same nodes; round a circle, the
+/// smallest of which is two nodes to and fro; or any way at all, which seldom comes back to none.
+fn come_back(rng: &mut Rng, flow: &mut Flow, wanted: usize, pool: usize) {
+    let way = rng.below(3);
+    let circle = rng.within(2, (wanted - 1).min(pool));
+    let fresh = [wanted / 2 + 1, circle, 1][way];
+    different(rng, flow, fresh, pool);
+    for i in fresh..wanted {
+        let node = match way {
+            0 => flow.route[2 * (fresh - 1) - i],
+            1 => flow.route[i - fresh],
+            _ => next(rng, flow.used(), pool),
+        };
+        put(flow, node);
+    }
+}
+
+/// Any node but the last of the route, every other time one that stands there already.
+fn next(rng: &mut Rng, route: &[u16], pool: usize) -> u16 {
+    loop {
+        let node = if rng.once_in(2) { rng.pick(route) } else { rng.below(pool) as u16 };
+        if route.last() != Some(&node) {
+            return node;
+        }
+    }
+}
+
+/// Puts a node at the route's end.
+fn put(flow: &mut Flow, node: u16) {
+    flow.route[usize::from(flow.nodes)] = node;
+    flow.nodes += 1;
 }
 
 /// Tiny sets: few enough lists to try them all. Either few flows with room, or one more with less of it.
@@ -83,11 +146,12 @@ pub fn tiny(rng: &mut Rng) -> Set {
     let shape = Shape {
         flows,
         channels: (1, 3),
-        nodes: (2, 3),
+        nodes: (2, rng.within(3, 4)),
         pool: rng.within(3, 7),
         tries: rng.pick(&[1, 1, 2]),
         periods,
         start: 6,
+        loops: true,
     };
     let mut set = draw(rng, &shape);
     if rng.once_in(2) {
@@ -106,6 +170,7 @@ pub fn small(rng: &mut Rng) -> Set {
         tries: rng.within(1, 4),
         periods: rng.pick(&[(1, 12), (8, 40), (30, 300)]),
         start: rng.pick(&[5, 50]),
+        loops: true,
     };
     draw(rng, &shape)
 }
@@ -120,6 +185,7 @@ pub fn large(rng: &mut Rng) -> Set {
         tries: rng.within(1, 4),
         periods: rng.pick(&[(1, 400), (100, 5_000), (1, 65_535), (65_000, 65_535)]),
         start: 65_535,
+        loops: true,
     };
     draw(rng, &shape)
 }
@@ -134,6 +200,7 @@ pub fn wide(rng: &mut Rng) -> Set {
         tries: rng.within(1, 2),
         periods: rng.pick(&[(300, 900), (600, 600)]),
         start: 300,
+        loops: true,
     };
     let mut set = draw(rng, &shape);
     for flow in &mut set.flows[..usize::from(set.count)] {
@@ -173,11 +240,12 @@ pub fn tight(rng: &mut Rng) -> Set {
     let shape = Shape {
         flows: (2, 7),
         channels: (1, 3),
-        nodes: (2, rng.within(2, 4)),
+        nodes: (2, rng.within(2, 5)),
         pool: rng.pick(&[4, 6, 9, 16]),
         tries: rng.within(1, 2),
         periods: rng.pick(&[(short, short), (short, 2 * short), (2 * short, 5 * short), (4, 24)]),
         start: 30,
+        loops: true,
     };
     let mut set = draw(rng, &shape);
     round_periods(rng, &mut set);
@@ -252,8 +320,20 @@ fn full_of(rng: &mut Rng, pool: usize) -> Set {
         tries: 1,
         periods: (2_000, 60_000),
         start: 2_000,
+        loops: false,
     };
     draw(rng, &shape)
+}
+
+/// 64 flows of 17 nodes at every limit, for measuring: each goes out over nine nodes and comes back over the same.
+pub fn loops() -> Set {
+    let mut set = full(&mut Rng::new(1));
+    for flow in &mut set.flows {
+        for i in 9..MOST_NODES {
+            flow.route[i] = flow.route[16 - i];
+        }
+    }
+    set
 }
 
 /// The longest accepted text, for measuring: every number as long as it can be.

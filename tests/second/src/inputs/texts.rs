@@ -48,7 +48,8 @@ pub fn damaged(rng: &mut Rng, faults: [u8; 2]) -> Damaged {
     text.extend_from_slice(&line);
     if ended && rng.once_in(2) {
         text.extend_from_slice(&lines[rng.below(lines.len())..].concat());
-        text.extend_from_slice(rng.pick(&[&b""[..], b"\n", b"set\t0\n", b"flow\t0", b"x"]));
+        let later: [&[u8]; 6] = [b"", b"\n", b"set\t0\n", b"flow\t0", b"x", b"flow\t9\t9\t0\t1\t5\t5\n"];
+        text.extend_from_slice(rng.pick(&later));
     }
     Damaged { text, refusal: Refusal::at(faults[0].min(faults[1]), before as u32 + 1) }
 }
@@ -63,6 +64,7 @@ fn crowd(rng: &mut Rng) -> Set {
         tries: 1,
         periods: (2, 99),
         start: 9,
+        loops: true,
     };
     sets::draw(rng, &shape)
 }
@@ -119,9 +121,17 @@ fn way(rng: &mut Rng, faults: [u8; 2]) -> (usize, Vec<u16>) {
         _ => rng.within(MOST_NODES + 1, 60),
     };
     let mut route: Vec<u16> = (0..nodes).map(|i| (i * 1000 + rng.below(1000)) as u16).collect();
+    let returns = rng.once_in(2);
+    for i in (2..nodes).filter(|_| returns) {
+        // back to the node before the last; no node equals its neighbour by that
+        if rng.once_in(3) {
+            route[i] = route[i - 2];
+        }
+    }
     if has(8) {
-        let later = rng.within(1, nodes - 1);
-        route[later] = route[rng.below(later)];
+        // the equal pair comes first, last, or anywhere
+        let later = [1, nodes - 1, rng.within(1, nodes - 1)][rng.below(3)];
+        route[later] = route[later - 1];
     }
     (tries, route)
 }

@@ -2,16 +2,18 @@
 //! for every slip that it can catch.
 
 use crate::definition::{self, Equation};
+use second::check::check_with;
 use second::delay::{Delays, PlannerWith};
-use second::inputs::{records, sets, Rng};
+use second::inputs::{named, records, sets, Rng};
 use second::machine::MachineWith;
 use second::plan::print;
 use second::slip;
 use second::{read, Flow, Refusal, Set, Slot, State};
 
-/// The rules to try: a planner's and a machine's, either with a slip in it.
+/// The rules to try: those of a record, a planner's and a machine's, any of them with a slip in it.
 #[derive(Clone, Copy)]
 pub struct Rules {
+    pub check: fn(&Set) -> Refusal,
     pub delays: fn(&Set) -> Delays,
     pub machine: fn(&Set) -> Box<dyn Steps>,
 }
@@ -32,8 +34,14 @@ impl<const SLIP: u8> Steps for MachineWith<SLIP> {
     }
 }
 
-/// Document 01's rules.
-pub const RIGHT: Rules = Rules { delays: delays::<{ slip::NONE }>, machine: machine::<{ slip::NONE }> };
+/// The documents' rules.
+pub const RIGHT: Rules =
+    Rules { check: check_with::<{ slip::NONE }>, delays: delays::<{ slip::NONE }>, machine: machine::<{ slip::NONE }> };
+
+/// A slip in the rules of a record.
+pub fn record_slip<const SLIP: u8>() -> Rules {
+    Rules { check: check_with::<SLIP>, ..RIGHT }
+}
 
 /// A slip in the planner.
 pub fn planner_slip<const SLIP: u8>() -> Rules {
@@ -72,7 +80,7 @@ pub fn set_of(text: &str) -> Set {
     read.set
 }
 
-/// One of document 01's sets on either side of a line.
+/// One of document 01's sets on either side of a line, or of request 1's loops.
 pub struct Paper {
     pub name: &'static str,
     pub text: &'static str,
@@ -98,7 +106,14 @@ send\t11\t0\t2\t3\t0\t12
 
 pub const P8_TEXT: &str = "set\t1\nflow\t10\t4\t0\t2\t1\t2\t3\n";
 
-pub const PAPER: [Paper; 8] = [
+pub const P11_TEXT: &str = "set\t1\nflow\t10\t4\t0\t2\t1\t2\t1\n";
+
+pub const L1_TEXT: &str = "set\t3\nflow\t20\t20\t0\t1\t1\t2\t3\t2\t1\nflow\t20\t20\t0\t1\t4\t2\n";
+
+/// Flow 0 goes over the link 1-2 twice: flow 1's packet waits for all three of its links, and takes its very bound.
+pub const L2_TEXT: &str = "set\t3\nflow\t10\t6\t0\t1\t1\t2\t1\t2\nflow\t10\t10\t0\t1\t2\t9\n";
+
+pub const PAPER: [Paper; 11] = [
     Paper {
         name: "P1",
         text: P1_TEXT,
@@ -165,9 +180,55 @@ pub const PAPER: [Paper; 8] = [
         tightened: &[4],
         slots: &[(&[0], &[]), (&[0], &[]), (&[0], &[]), (&[0], &[]), (&[], &[])],
     },
+    Paper {
+        name: "P11",
+        text: P11_TEXT,
+        admits: [true, true],
+        basic: &[4],
+        tightened: &[4],
+        slots: &[(&[0], &[]), (&[0], &[]), (&[0], &[]), (&[0], &[]), (&[], &[])],
+    },
+    Paper {
+        name: "L1",
+        text: L1_TEXT,
+        admits: [true, true],
+        basic: &[5, 5],
+        tightened: &[5, 5],
+        slots: &[(&[0], &[]), (&[0], &[]), (&[0], &[]), (&[0], &[]), (&[1], &[]), (&[], &[])],
+    },
+    Paper {
+        name: "L2",
+        text: L2_TEXT,
+        admits: [true, true],
+        basic: &[4, 4],
+        tightened: &[3, 4],
+        slots: &[(&[0], &[]), (&[0], &[]), (&[0], &[]), (&[1], &[]), (&[], &[])],
+    },
 ];
 
-/// P1 to P8 and the plan; P9 to P11 are refusals, which no slip touches.
+/// Records of every kind against the rules of the definition; and named sets, which are good, behind whose routes' ends
+/// nothing or the last node stands.
+pub fn refusals(rules: Rules, seed: u64, draws: usize) -> Found {
+    let mut rng = Rng::new(seed);
+    for set in named::sets().iter().map(|named| set_of(&named.text)) {
+        let mut untidy = set;
+        records::garbage(&mut rng, &mut untidy);
+        for set in [set, untidy] {
+            claim((rules.check)(&set) == Refusal::NONE, || format!("{:?} is refused", set.used()))?;
+        }
+    }
+    for _ in 0..draws {
+        let set = records::record(&mut rng);
+        let (number, line) = definition::refusal(&set);
+        let found = (rules.check)(&set);
+        claim(found == Refusal::at(number, line), || {
+            format!("{found:?}, not {number} at {line}, of {:?}", set.used())
+        })?;
+    }
+    Ok(())
+}
+
+/// P1 to P8, P11 and the plan; P9 and P10 are refusals, which no slip touches.
 pub fn paper(rules: Rules) -> Found {
     let first = set_of(P1_TEXT);
     let mut machine = (rules.machine)(&first);
@@ -177,6 +238,8 @@ pub fn paper(rules: Rules) -> Found {
     claim(plan == P1_PLAN.as_bytes(), || format!("the plan is {}", String::from_utf8_lossy(&plan)))?;
     for p in &PAPER {
         let set = set_of(p.text);
+        let refusal = (rules.check)(&set);
+        claim(refusal == Refusal::NONE, || format!("{}: {refusal:?}", p.name))?;
         let delays = (rules.delays)(&set);
         let verdict = delays.verdict();
         claim([verdict.basic, verdict.tightened] == p.admits, || format!("{}: {verdict:?}", p.name))?;
@@ -256,6 +319,9 @@ pub struct Fared {
     pub attained: [usize; 2],
     /// Packets delivered.
     pub packets: usize,
+    /// Of the sets that a test admits, those with a returning node; and those of them attained, as above.
+    pub loops: usize,
+    pub loops_attained: [usize; 2],
 }
 
 /// Demand 3 run over tight sets, each for 150 slots: several times every period.
@@ -276,13 +342,16 @@ pub fn demand3_of(
         let set = draw(&mut rng);
         let delays = (rules.delays)(&set);
         let verdict = delays.verdict();
+        let returns = sets::returns(&set);
         fared.admitted += usize::from(verdict.basic || verdict.tightened);
+        fared.loops += usize::from(returns && (verdict.basic || verdict.tightened));
         fared.only_tightened += usize::from(verdict.tightened && !verdict.basic);
         for (test, admits, bounds) in [(0, verdict.basic, delays.basic), (1, verdict.tightened, delays.tightened)] {
             if admits {
                 let (packets, attained) = run(rules, &set, &bounds, slots)?;
                 fared.packets += packets;
                 fared.attained[test] += usize::from(attained);
+                fared.loops_attained[test] += usize::from(attained && returns);
             }
         }
     }
@@ -291,7 +360,7 @@ pub fn demand3_of(
 
 /// Demand 3 for one set: a run from the fresh state. Answers how many packets were delivered, and whether one of them
 /// took exactly its bound.
-fn run(rules: Rules, set: &Set, bounds: &[u32], slots: u32) -> Result<(usize, bool), String> {
+pub fn run(rules: Rules, set: &Set, bounds: &[u32], slots: u32) -> Result<(usize, bool), String> {
     let (mut machine, mut state, mut slot) = ((rules.machine)(set), State::FRESH, Slot::default());
     let (mut made, mut packets, mut attained) = ([0u32; 64], 0, false);
     for t in 0..slots {

@@ -1,5 +1,5 @@
-//! Document 01 in its slowest and most literal words: signed numbers, nested loops, all lists tried. For tiny sets and
-//! single slots only; it shares nothing with the library but the records.
+//! Document 01, rule 8 and S as request 1 of document 02 has them, in the slowest and most literal words: signed numbers,
+//! nested loops, all lists tried. For tiny sets and single slots only; it shares nothing with the library but the records.
 
 use second::{Delivered, Flow, Set, Slot, State, Transmission};
 
@@ -7,11 +7,51 @@ pub fn c(flow: &Flow) -> i64 {
     (i64::from(flow.nodes) - 1) * i64::from(flow.tries)
 }
 
-/// S: κ of l times the number of l's links that have an end on k's route.
+/// Which of the faults 4 to 9 a flow has, in the words of the table; 8 is a node equal to its neighbour.
+pub fn faults(t: i64, d: i64, tries: i64, route: &[i64]) -> Vec<u8> {
+    let rules = [
+        (4, t == 0),
+        (5, d == 0 || d > t),
+        (6, !(1..=4).contains(&tries)),
+        (7, !(2..=17).contains(&route.len())),
+        (8, (1..route.len()).any(|i| route[i] == route[i - 1])),
+        (9, (route.len() as i64 - 1) * tries > d),
+    ];
+    rules.iter().filter(|rule| rule.1).map(|rule| rule.0).collect()
+}
+
+/// The refusal of a record, number and line: the map's line, then each flow's, then the 65th flow's. A route has as many
+/// nodes as the record says; the array holds 17 of them, and with more than these it is 7 whatever they are.
+pub fn refusal(set: &Set) -> (u8, u32) {
+    if set.map == 0 {
+        return (2, 1);
+    }
+    for (k, flow) in set.flows.iter().enumerate().take(set.count.into()) {
+        let route: Vec<i64> =
+            (0..flow.nodes.into()).map(|i| flow.route.get(i).map_or(0, |&node| node.into())).collect();
+        let found = faults(flow.period.into(), flow.deadline.into(), flow.tries.into(), &route);
+        if let Some(&lowest) = found.iter().min() {
+            return (lowest, k as u32 + 2);
+        }
+    }
+    if set.count > 64 {
+        (3, 66)
+    } else {
+        (0, 0)
+    }
+}
+
+/// S: κ of l times the number of l's links that have an end on k's route; a link counts once for each place it has.
 pub fn s(k: &Flow, l: &Flow) -> i64 {
-    let on_route = |node: &u16| k.used().iter().any(|other| other == node);
-    let links = l.used().windows(2).filter(|link| on_route(&link[0]) || on_route(&link[1])).count();
-    i64::from(l.tries) * links as i64
+    let mut links = 0;
+    for place in 0..usize::from(l.nodes) - 1 {
+        let mut touches = false;
+        for node in &k.route[..usize::from(k.nodes)] {
+            touches |= l.route[place] == *node || l.route[place + 1] == *node;
+        }
+        links += i64::from(touches);
+    }
+    i64::from(l.tries) * links
 }
 
 pub fn deadlines(set: &Set) -> Vec<i64> {

@@ -1,8 +1,9 @@
 //! The generator: what it draws is what it says, and no refusal and no pair of faults is missing.
 
 use crate::checks::set_of;
+use crate::definition;
 use second::inputs::{records, sets, texts, Rng};
-use second::{check, read, step, Planner, Refusal, REFUSALS};
+use second::{check, read, step, Flow, Planner, Refusal, Set, REFUSALS};
 
 #[test]
 fn the_same_seed_draws_the_same_inputs() {
@@ -21,8 +22,10 @@ fn drawn_sets_are_good() {
         assert_eq!(check(&sets::any(&mut rng)), Refusal::NONE);
     }
     assert_eq!(check(&sets::ring64()), Refusal::NONE);
-    let full = sets::full(&mut rng);
-    assert_eq!((check(&full), full.count, full.m()), (Refusal::NONE, 64, 16));
+    for full in [sets::full(&mut rng), sets::loops()] {
+        assert_eq!((check(&full), full.count, full.m()), (Refusal::NONE, 64, 16));
+    }
+    assert!(sets::loops().used().iter().all(|flow| flow.nodes == 17 && returns(flow)));
 }
 
 #[test]
@@ -64,19 +67,11 @@ fn every_refusal_occurs() {
     assert!([0, 11, 12].iter().all(|&number| seen[2][number] > 50), "{seen:?}");
 }
 
-/// Which of the faults 4 to 9 a well-formed line has, in the words of document 01's table.
-fn faults_of(numbers: &[i64]) -> Vec<u8> {
-    let (t, d, tries, route) = (numbers[0], numbers[1], numbers[3], &numbers[4..]);
-    let twice = (0..route.len()).any(|i| route[i + 1..].contains(&route[i]));
-    let rules = [
-        (4, t == 0),
-        (5, d == 0 || d > t),
-        (6, !(1..=4).contains(&tries)),
-        (7, !(2..=17).contains(&route.len())),
-        (8, twice),
-        (9, (route.len() as i64 - 1) * tries > d),
-    ];
-    rules.iter().filter(|rule| rule.1).map(|rule| rule.0).collect()
+/// The numbers of the line that a damaged text is refused for.
+fn numbers_of(damaged: texts::Damaged) -> Vec<i64> {
+    let text = String::from_utf8(damaged.text).unwrap();
+    let line = text.lines().nth(damaged.refusal.line as usize - 1).unwrap();
+    line.split('\t').skip(1).map(|field| field.parse().unwrap()).collect()
 }
 
 #[test]
@@ -84,16 +79,80 @@ fn damaged_lines_have_both_faults_of_every_pair() {
     let mut rng = Rng::new(94);
     for faults in texts::pairs().into_iter().filter(|faults| faults[0] > 3) {
         for _ in 0..100 {
-            let damaged = texts::damaged(&mut rng, faults);
-            let text = String::from_utf8(damaged.text).unwrap();
-            let line = text.lines().nth(damaged.refusal.line as usize - 1).unwrap();
-            let numbers: Vec<i64> = line.split('\t').skip(1).map(|field| field.parse().unwrap()).collect();
-            let found = faults_of(&numbers);
-            assert!(faults.iter().all(|fault| found.contains(fault)), "{faults:?}, found {found:?} in {line}");
+            let numbers = numbers_of(texts::damaged(&mut rng, faults));
+            let found = definition::faults(numbers[0], numbers[1], numbers[3], &numbers[4..]);
+            assert!(faults.iter().all(|fault| found.contains(fault)), "{faults:?}, found {found:?} in {numbers:?}");
             assert_eq!(found.iter().min(), Some(&faults[0]));
         }
     }
     assert_eq!(texts::pairs().len(), 2 + 8 * 9 / 2);
+}
+
+#[test]
+fn equal_neighbours_come_first_in_the_middle_and_last_in_every_pair() {
+    let mut rng = Rng::new(96);
+    for faults in texts::pairs().into_iter().filter(|faults| faults[0] > 1 && faults.contains(&8)) {
+        let mut seen = [0; 3];
+        let mut returning = 0;
+        for _ in 0..200 {
+            let numbers = numbers_of(texts::damaged(&mut rng, faults));
+            let route = &numbers[4..];
+            let last = route.len() - 1;
+            for i in (1..=last).filter(|&i| route[i] == route[i - 1]) {
+                seen[if i == 1 { 0 } else { 1 + usize::from(i == last) }] += 1;
+            }
+            returning +=
+                usize::from((2..=last).any(|i| route[..i - 1].contains(&route[i]) && route[i] != route[i - 1]));
+        }
+        assert!(seen.iter().all(|&times| times > 20) && returning > 20, "{faults:?}: {seen:?}, {returning}");
+    }
+}
+
+#[test]
+fn half_of_the_sets_have_a_returning_node() {
+    let mut rng = Rng::new(97);
+    let kinds: [(&str, fn(&mut Rng) -> Set); 5] = [
+        ("any", sets::any),
+        ("tiny", sets::tiny),
+        ("edge", sets::edge),
+        ("tight", sets::tight),
+        ("of a good text", |rng| read(&texts::good(rng)).set),
+    ];
+    for (name, draw) in kinds {
+        let returning = (0..4_000).filter(|_| sets::returns(&draw(&mut rng))).count();
+        assert!((2_000..3_900).contains(&returning), "{name}: {returning} of 4,000");
+    }
+}
+
+/// What a returning route can be: a link that stands again, a node that returns in both routes of a pair that have one
+/// in common, and such routes over nodes that a few bits do and do not tell apart.
+#[test]
+fn returning_routes_are_of_every_kind() {
+    let mut rng = Rng::new(98);
+    let (mut again, mut both, mut alike, mut longest) = (0, 0, 0, 0);
+    for _ in 0..2_000 {
+        let set = sets::any(&mut rng);
+        let loops: Vec<&Flow> = set.used().iter().filter(|flow| returns(flow)).collect();
+        let link_again = |flow: &Flow| {
+            let links: Vec<&[u16]> = flow.used().windows(2).collect();
+            (1..links.len()).any(|i| links[..i].contains(&links[i]))
+        };
+        again += usize::from(loops.iter().any(|flow| link_again(flow)));
+        let touch = |one: &Flow, other: &Flow| one.used().iter().any(|node| other.used().contains(node));
+        both += usize::from((1..loops.len()).any(|i| touch(loops[i], loops[i - 1])));
+        let kind = |node: u16| (node % 512 + node / 512) % 512;
+        let kinds =
+            |flow: &Flow| flow.used().iter().any(|&node| node != flow.route[0] && kind(node) == kind(flow.route[0]));
+        alike += usize::from(loops.iter().any(|flow| kinds(flow)));
+        longest += usize::from(loops.iter().any(|flow| flow.nodes == 17));
+    }
+    assert!(again > 500 && both > 500 && alike > 100 && longest > 100, "{again} {both} {alike} {longest}");
+}
+
+fn returns(flow: &Flow) -> bool {
+    let mut alone = Set { count: 1, ..Set::BLANK };
+    alone.flows[0] = *flow;
+    sets::returns(&alone)
 }
 
 #[test]
@@ -104,4 +163,19 @@ fn garbage_lies_only_where_nothing_counts() {
     records::garbage(&mut rng, &mut untidy);
     assert_ne!(set, untidy);
     assert_eq!((set.map, set.count, set.flows[0].used()), (untidy.map, untidy.count, untidy.flows[0].used()));
+}
+
+#[test]
+fn the_last_node_often_stands_once_more_behind_a_routes_end() {
+    let mut rng = Rng::new(99);
+    let mut again = [0; 3];
+    for _ in 0..600 {
+        let mut set = set_of("set\t1\nflow\t9\t9\t0\t1\t1\t2\n");
+        set.flows[0].route[1] = rng.pick(&[0, 2]);
+        records::garbage(&mut rng, &mut set);
+        let behind = set.flows[0].route[2..].iter().take_while(|&&node| node == set.flows[0].route[1]).count();
+        again[[0, 1, 2][behind.min(2)]] += 1;
+        assert_eq!(check(&set), Refusal::NONE);
+    }
+    assert!(again.iter().all(|&times| times > 100), "{again:?}");
 }

@@ -1,6 +1,6 @@
-//! P1 to P11 and the plan of document 01, byte for byte.
+//! P1 to P11 and the plan of document 01, byte for byte, P11 as request 1 of document 02 has it; and request 1's loops.
 
-use crate::checks::{self, set_of, P1_PLAN, P1_TEXT, P8_TEXT, PAPER, RIGHT};
+use crate::checks::{self, set_of, L1_TEXT, L2_TEXT, P11_TEXT, P1_PLAN, P1_TEXT, P8_TEXT, PAPER, RIGHT};
 use second::{bound, plan, read, step, verdict, Refusal, Set, State};
 
 fn plan_of(text: &str) -> String {
@@ -8,7 +8,7 @@ fn plan_of(text: &str) -> String {
 }
 
 #[test]
-fn p1_to_p8_are_as_written() {
+fn p1_to_p8_p11_and_the_loops_are_as_written() {
     checks::paper(RIGHT).unwrap();
 }
 
@@ -54,13 +54,47 @@ fn p8_sends_each_link_twice() {
     assert_eq!(order, [(1, 2, 0), (1, 2, 1), (2, 3, 0), (2, 3, 1)]);
 }
 
+const P11_PLAN: &str = "verdict\t1\t1\t1
+bound\t0\t4\t4\t4\t4\t0
+send\t0\t0\t1\t2\t0\t11
+send\t1\t0\t1\t2\t1\t11
+send\t2\t0\t2\t1\t0\t11
+send\t3\t0\t2\t1\t1\t11
+send\t10\t0\t1\t2\t0\t11
+send\t11\t0\t1\t2\t1\t11
+";
+
+const L1_PLAN: &str = "verdict\t1\t1\t2
+bound\t0\t4\t5\t5\t20\t15
+bound\t1\t1\t5\t5\t20\t15
+send\t0\t0\t1\t2\t0\t11
+send\t1\t0\t2\t3\t0\t12
+send\t2\t0\t3\t2\t0\t11
+send\t3\t0\t2\t1\t0\t12
+send\t4\t1\t4\t2\t0\t11
+";
+
+const L2_PLAN: &str = "verdict\t1\t1\t3
+bound\t0\t3\t4\t3\t6\t3
+bound\t1\t1\t4\t4\t10\t6
+send\t0\t0\t1\t2\t0\t11
+send\t1\t0\t2\t1\t0\t12
+send\t2\t0\t1\t2\t0\t11
+send\t3\t1\t2\t9\t0\t12
+send\t10\t0\t1\t2\t0\t11
+send\t11\t0\t2\t1\t0\t12
+";
+
 #[test]
-fn p9_to_p11_are_refused() {
-    for (text, number, line) in [
-        ("set\t1\nflow\t10\t3\t0\t2\t1\t2\t3\n", 9, 2),
-        ("set\t0\n", 2, 1),
-        ("set\t1\nflow\t10\t4\t0\t2\t1\t2\t1\n", 8, 2),
-    ] {
+fn the_plans_of_p11_and_the_loops_are_byte_for_byte() {
+    for (text, planned) in [(P11_TEXT, P11_PLAN), (L1_TEXT, L1_PLAN), (L2_TEXT, L2_PLAN)] {
+        assert_eq!(plan_of(text), planned);
+    }
+}
+
+#[test]
+fn p9_and_p10_are_refused() {
+    for (text, number, line) in [("set\t1\nflow\t10\t3\t0\t2\t1\t2\t3\n", 9, 2), ("set\t0\n", 2, 1)] {
         let read = read(text.as_bytes());
         assert_eq!((read.refusal, read.set), (Refusal::at(number, line), Set::BLANK));
         assert_eq!(plan_of(text), format!("refused\t{number}\t{line}\n"));

@@ -86,8 +86,10 @@ fn the_lowest_fault_of_the_line_decides() {
         ("flow\t9\t0\t0\t1\t1\t2".to_string(), 5),
         ("flow\t9\t9\t0\t0\t1\t2".to_string(), 6),
         ("flow\t9\t9\t0\t5\t1".to_string(), 6),
-        ("flow\t9\t1\t0\t1\t1\t2\t1".to_string(), 8),
+        (format!("flow\t99\t99\t0\t1{}\t16", nodes(17)), 7),
+        ("flow\t9\t1\t0\t1\t1\t2\t2".to_string(), 8),
         ("flow\t9\t1\t0\t1\t1\t2\t3".to_string(), 9),
+        ("flow\t9\t1\t0\t1\t1\t2\t1".to_string(), 9),
         (format!("flow\t9\t9\t{}\t1\t1\t2", "9".repeat(40)), 1),
         (format!("flow\t9\t9\t{}\t1\t1\t2", "0".repeat(40)), 1),
     ];

@@ -1,6 +1,6 @@
 //! Sets handed over as records: rules 2 to 9 by line, what doesn't count, and any value in any field.
 
-use crate::checks::{set_of, P1_TEXT};
+use crate::checks::{self, set_of, P1_TEXT, RIGHT};
 use second::inputs::{records, sets, Rng};
 use second::{bound, check, read, same, step, verdict, write, Bound, Refusal, Set, State, Verdict};
 
@@ -47,6 +47,29 @@ fn node_counts_above_17_look_at_nothing_beyond() {
         set.flows[1].nodes = nodes;
         assert_eq!(check(&set), Refusal::at(7, 3));
     }
+}
+
+#[test]
+fn only_the_nodes_of_the_route_can_be_equal_neighbours() {
+    let mut set = set_of("set\t1\nflow\t99\t99\t0\t1\t1\t2\n");
+    for (last, behind) in [(2, 2), (0, 0), (65_535, 65_535), (2, 1)] {
+        set.flows[0].route[1] = last;
+        set.flows[0].route[2..].fill(behind);
+        set.flows[0].nodes = 2;
+        assert_eq!(check(&set), Refusal::NONE);
+        for nodes in 3..=17 {
+            set.flows[0].nodes = nodes;
+            let refused = last == behind || nodes > 3;
+            assert_eq!(check(&set), if refused { Refusal::at(8, 2) } else { Refusal::NONE });
+        }
+        set.flows[0].nodes = 18;
+        assert_eq!(check(&set), Refusal::at(7, 2));
+    }
+}
+
+#[test]
+fn records_are_judged_by_the_definition() {
+    checks::refusals(RIGHT, 54, 8_000).unwrap();
 }
 
 #[test]

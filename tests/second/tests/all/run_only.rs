@@ -1,8 +1,8 @@
-//! Document 01's "run only" list.
+//! Document 01's "run only" list, and routes that return at the limits.
 
 use crate::checks::{set_of, P1_TEXT};
 use second::record::LAST_SLOT;
-use second::{read, step, write, Refusal, State};
+use second::{bound, read, step, write, Refusal, State};
 
 fn refusal(text: &str) -> Refusal {
     read(text.as_bytes()).refusal
@@ -38,6 +38,23 @@ fn deadline_equal_to_the_period_and_one_above() {
 fn nodes_17_and_18() {
     assert_eq!(refusal(&nodes(17)), Refusal::NONE);
     assert_eq!(refusal(&nodes(18)), Refusal::at(7, 2));
+}
+
+#[test]
+fn nodes_16_to_18_of_two_alternating_ones() {
+    let line = |d: u32, tries: u32, count: usize| {
+        let route: String = (0..count).map(|i| format!("\t{}", 1 + i % 2)).collect();
+        format!("set\t1\nflow\t64\t{d}\t0\t{tries}{route}\n")
+    };
+    for count in [16, 17] {
+        assert_eq!(refusal(&line(64, 4, count)), Refusal::NONE);
+    }
+    let set = set_of(&line(64, 4, 17));
+    let bound = bound(&set, 0);
+    assert_eq!((bound.c, bound.basic, bound.tightened, bound.margin), (64, 64, 64, 0));
+    assert_eq!(refusal(&line(63, 4, 17)), Refusal::at(9, 2));
+    assert_eq!(refusal(&line(64, 4, 18)), Refusal::at(7, 2));
+    assert_eq!(refusal(&line(64, 1, 18)), Refusal::at(7, 2));
 }
 
 #[test]

@@ -1,13 +1,14 @@
 //! The tests of the tests: each wrong rule is put in, and the very checks that the right rules pass must fail.
 
-use crate::checks::{self, machine_slip, planner_slip, Rules, RIGHT};
+use crate::checks::{self, machine_slip, planner_slip, record_slip, set_of, Rules, L2_TEXT, RIGHT};
 use second::slip;
 
-/// Which checks catch a slip: the paper's sets, the greatest list by search, the bounds and the slots by the
-/// definition, and demand 3 by simulation, which must catch it whatever the seed.
+/// Which checks catch a slip: the paper's sets, the refusals by the definition, the greatest list by search, the bounds
+/// and the slots by the definition, and demand 3 by simulation, which must catch it whatever the seed.
 #[derive(Debug)]
 struct Caught {
     paper: bool,
+    refusals: bool,
     greatest: bool,
     bounds: bool,
     slots: bool,
@@ -17,6 +18,7 @@ struct Caught {
 fn caught(rules: Rules) -> Caught {
     Caught {
         paper: checks::paper(rules).is_err(),
+        refusals: checks::refusals(rules, 20, 1_000).is_err(),
         greatest: checks::greatest(rules, 21, 1_000).is_err(),
         bounds: checks::bounds(rules, 22, 1_000).is_err(),
         slots: checks::slots(rules, 23, 1_000).is_err(),
@@ -27,7 +29,24 @@ fn caught(rules: Rules) -> Caught {
 #[test]
 fn the_right_rules_pass_every_check() {
     let none = caught(RIGHT);
-    assert!(!(none.paper || none.greatest || none.bounds || none.slots || none.demand3));
+    assert!(!(none.paper || none.refusals || none.greatest || none.bounds || none.slots || none.demand3));
+}
+
+#[test]
+fn counting_a_link_once_is_caught() {
+    let rules = planner_slip::<{ slip::LINK_ONCE }>();
+    let by = caught(rules);
+    assert!(by.paper && by.greatest && by.bounds && by.demand3);
+    // L2: flow 1's bound would be 3, and its packet takes 4 slots.
+    let (set, delays) = (set_of(L2_TEXT), (rules.delays)(&set_of(L2_TEXT)));
+    assert_eq!((delays.basic[1], delays.tightened[1]), (3, 3));
+    assert!(checks::run(rules, &set, &delays.tightened, 10).is_err());
+}
+
+#[test]
+fn refusing_a_node_that_stood_earlier_is_caught() {
+    let by = caught(record_slip::<{ slip::NODE_TWICE }>());
+    assert!(by.paper && by.refusals);
 }
 
 #[test]

@@ -31,6 +31,7 @@ impl Text<'_> {
 pub fn over_text(tally: &mut Tally, rng: &mut Rng, bytes: &[u8]) {
     let text = Text::new(bytes);
     let other = verdict_of_text(bytes);
+    tally.saw(&text.set, other.refusal);
     count(tally, other.refusal);
     hold_verdict(tally, &text.set, compare::text_verdict(bytes), other);
     for flow in [0, rng.below(66) as u32, rng.bits() as u32, 65_536 + rng.below(64) as u32] {
@@ -57,8 +58,9 @@ fn all_bounds(tally: &mut Tally, rng: &mut Rng, text: &Text) {
 
 /// Slots of one text one after the other, from the fresh state.
 pub fn walk(tally: &mut Tally, rng: &mut Rng) {
-    let bytes = text_of(&sets::any(rng));
-    walk_over(tally, rng, &bytes, 20);
+    let set = sets::any(rng);
+    tally.saw(&set, Refusal::NONE);
+    walk_over(tally, rng, &text_of(&set), 20);
 }
 
 /// Slots of this text, this many; one that finds no room for its lines is tried again.

@@ -1,6 +1,6 @@
 //! Compares the proved planner with the second one on every function, for a bounded time, with seeds that it prints.
 //! A difference prints the input as text and fails. Every refusal number of document 01 must have been seen, also through the functions
-//! that a user holds.
+//! that a user holds, and half of the good sets must have had a node that returns later in a route.
 
 mod calls;
 mod named;
@@ -24,11 +24,15 @@ struct Tally {
     slots: u64,
     packets: u64,
     admitted: u64,
+    /// Good sets, and those of them with a route that comes back to a node.
+    sets: u64,
+    returning: u64,
 }
 
 impl Tally {
     fn new(seed: u64) -> Tally {
-        Tally { seed, seeds: 0, refusals: [0; REFUSALS], called: [0; REFUSALS], inputs: 0, slots: 0, packets: 0, admitted: 0 }
+        let seen = [0; REFUSALS];
+        Tally { seed, seeds: 0, refusals: seen, called: seen, inputs: 0, slots: 0, packets: 0, admitted: 0, sets: 0, returning: 0 }
     }
 
     /// What another worker compared counts too.
@@ -42,6 +46,16 @@ impl Tally {
         self.slots += other.slots;
         self.packets += other.packets;
         self.admitted += other.admitted;
+        self.sets += other.sets;
+        self.returning += other.returning;
+    }
+
+    /// Counts an input that is a good set.
+    fn saw(&mut self, set: &Set, refusal: Refusal) {
+        if !refusal.refuses() {
+            self.sets += 1;
+            self.returning += u64::from(sets::returns(set));
+        }
     }
 
     /// Holds what both planners say of a refusal together, and counts it.
@@ -75,6 +89,7 @@ fn main() {
     named::found_by_hand(&mut tally);
     named::at_the_limits(&mut tally);
     named::refused(&mut tally);
+    named::behind_the_end(&mut tally);
     calls::named(&mut tally);
     let workers: Vec<_> = (0..WORKERS).map(|w| std::thread::spawn(move || seeds(first + w, end))).collect();
     for worker in workers {
@@ -82,10 +97,15 @@ fn main() {
     }
     println!("{} seeds from {first} on: {} comparisons, {} slots, {} packets of {} admitted sets", tally.seeds, tally.inputs, tally.slots,
         tally.packets, tally.admitted);
+    println!("{} good sets, {} of them with a returning node", tally.sets, tally.returning);
     println!("refusals seen: {}", counts(&tally.refusals));
     println!("refusals seen of rembasuk_verdict, rembasuk_bounds, rembasuk_slot and plan: {}", counts(&tally.called));
     if [tally.refusals, tally.called].iter().any(|seen| seen[..=LAST_OF_01].contains(&0)) {
         println!("a refusal number was never seen");
+        std::process::exit(1);
+    }
+    if 2 * tally.returning < tally.sets {
+        println!("fewer than half of the sets have a returning node");
         std::process::exit(1);
     }
 }
@@ -118,6 +138,7 @@ fn counts(refusals: &[u64; REFUSALS]) -> String {
 /// The reader, and the writer on what was read.
 fn read_and_write(tally: &mut Tally, text: &[u8]) {
     let other = second::read(text);
+    tally.saw(&other.set, other.refusal);
     let (fault, set) = compare::read(text);
     tally.fault(&format!("reading {:?}", String::from_utf8_lossy(text)), &other.set, fault, other.refusal);
     tally.hold("the set read", &other.set, set == other.set, || String::from_utf8_lossy(text).into());
@@ -136,6 +157,7 @@ fn over_record(tally: &mut Tally, rng: &mut Rng) {
         records::garbage(rng, &mut set);
     }
     let record = Record::new(&set);
+    tally.saw(&set, second::check(&set));
     tally.fault("the record check", &set, record.fault(), second::check(&set));
     write_record(tally, rng, &set, &record);
     delays(tally, rng, &set, &record);
@@ -191,6 +213,7 @@ fn long_run(tally: &mut Tally, rng: &mut Rng) {
     let set = if rng.once_in(2) { sets::tight(rng) } else { sets::any(rng) };
     let record = Record::new(&set);
     let (Ok(mut machine), Ok(planner)) = (Machine::new(&set), Planner::new(&set)) else { return };
+    tally.saw(&set, Refusal::NONE);
     let delays = planner.delays();
     let budget = 500 + rng.below(2500) as u32;
     let (mut st, mut slot, mut delivered, mut dropped) = (State::FRESH, Slot::new(), 0u64, 0u64);

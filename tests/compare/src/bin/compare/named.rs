@@ -27,7 +27,7 @@ pub fn found_by_hand(tally: &mut Tally) {
 /// planner goes over to sums of all 64 places.
 pub fn at_the_limits(tally: &mut Tally) {
     let few = |count| Set { count, ..sets::full(&mut Rng::new(1)) };
-    for set in [few(16), few(17), few(64), sets::alike(9), sets::alike(64), sets::busy(), sets::longest()] {
+    for set in [few(16), few(17), few(64), sets::alike(9), sets::alike(64), sets::busy(), sets::longest(), sets::loops()] {
         let text = text_of(&set);
         read_and_write(tally, &text);
         through_c(tally, &text, &set);
@@ -93,6 +93,27 @@ fn through_records(tally: &mut Tally, set: &Set) {
     let ran = record.run(66_000);
     let same = ran.last == st && ran.delivered == delivered && ran.dropped == dropped;
     tally.hold("a run", set, same, || format!("{ran:?}, {st:?}, {delivered}, {dropped}"));
+}
+
+/// Records of which only the nodes of the route count: their last node stands once more behind the route's end.
+pub fn behind_the_end(tally: &mut Tally) {
+    let mut set = compare::read(b"set\t1\nflow\t99\t99\t0\t1\t1\t2\n").1;
+    for (last, behind) in [(2, 2), (0, 0), (65_535, 65_535), (2, 1)] {
+        set.flows[0].route[1] = last;
+        set.flows[0].route[2..].fill(behind);
+        for nodes in 1..=18 {
+            set.flows[0].nodes = nodes;
+            let number = match nodes {
+                2 => 0,
+                3 if last != behind => 0,
+                3..=17 => 8,
+                _ => 7,
+            };
+            let line = if number == 0 { 0 } else { 2 };
+            hold_fault(tally, "nodes behind a route's end", Record::new(&set).fault(), number, line);
+            through_records(tally, &set);
+        }
+    }
 }
 
 /// Each refusal of a text by itself, then 10 to 13 by themselves.
