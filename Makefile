@@ -29,24 +29,27 @@ target/staticlib/lib%.a: $(SOURCES)
 	rt staticlib $*
 
 # the kit leaves a program alone that is as its sources say
-target/bin/plan: $(SOURCES)
-	rt check plan
+PROGRAMS := plan superframe
+$(PROGRAMS:%=target/bin/%): target/bin/%: $(SOURCES)
+	rt check $*
 	touch $@
 
-# What is installed: the program, the library for C with its header and pkg-config file, a manual page of each.
-FILES := bin/plan include/rembasuk.h lib/librembasuk.a lib/pkgconfig/rembasuk.pc share/man/man1/plan.1 share/man/man3/rembasuk.3
+# What is installed: the programs, the library for C with its header and pkg-config file, a manual page of each.
+FILES := $(PROGRAMS:%=bin/%) include/rembasuk.h lib/librembasuk.a lib/pkgconfig/rembasuk.pc $(PROGRAMS:%=share/man/man1/%.1) share/man/man3/rembasuk.3
 
 # The shell gets the prefix from its environment, whatever signs are in it, and begins it at the root: the pkg-config file is read anywhere.
 PLACES = set -eu; case "$$PREFIX" in '' | /*) prefix=$$PREFIX ;; *) prefix=$$(pwd)/$$PREFIX ;; esac; to=$$DESTDIR$$prefix
 
 # From a fresh clone: make install PREFIX=..
-install: target/staticlib/libplanner.a target/bin/plan
+install: target/staticlib/libplanner.a $(PROGRAMS:%=target/bin/%)
 	@$(PLACES); \
 	for file in $(FILES); do install -d "$$to/$$(dirname "$$file")"; done; \
-	install -m 755 target/bin/plan "$$to/bin/plan"; \
+	for program in $(PROGRAMS); do \
+		install -m 755 "target/bin/$$program" "$$to/bin/$$program"; \
+		install -m 644 "man/$$program.1" "$$to/share/man/man1/$$program.1"; \
+	done; \
 	install -m 644 include/rembasuk.h "$$to/include/rembasuk.h"; \
 	install -m 644 target/staticlib/libplanner.a "$$to/lib/librembasuk.a"; \
-	install -m 644 man/plan.1 "$$to/share/man/man1/plan.1"; \
 	install -m 644 man/rembasuk.3 "$$to/share/man/man3/rembasuk.3"; \
 	version=$$(sed -n 's/^#define REMBASUK_VERSION_[A-Z]* \([0-9][0-9]*\)$$/\1/p' include/rembasuk.h | paste -s -d . -); \
 	quoted=$$(printf '%s\n' "$$prefix" | sed "s/[][ \\\\'\"(){}<>|&;*?~\`#]/\\\\&/g"); \

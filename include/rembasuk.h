@@ -23,10 +23,19 @@
  * THE LAST SLOT. The slot before 4000000000 is made like any other and leaves a state at slot 4000000000; from that state every call is
  * refused with 11. A host that runs for longer begins again with the fresh state, when it can do without the packets under way.
  *
+ * THE SUPERFRAME is for devices that are loaded with one table and repeat it: every transmission of one hyper-period, the least common
+ * multiple of the periods, of an admitted set whose starts are all 0. It is a table of 16-bit numbers, four a transmission,
+ *     slot, flow, transmission number (from 0 in its packet), offset
+ * strictly rising by slot, then offset. In slot t, for every t below 4000000000, the machine above sends exactly what the table has at
+ * t mod hyper-period: transmission number i of a flow goes over link i / TRIES of its route, with try i mod TRIES, on the channel that
+ * rembasuk_channel answers for the map, the TRUE slot t and the offset. All devices count slots from the same slot 0. The channel is not in the
+ * table, since it follows the true slot: the number of channels need not divide the hyper-period.
+ *
  * MEMORY. The caller owns every buffer. A function reads and writes only the bytes lent, keeps no pointer, and allocates nothing.
  * A buffer of length 0 may be NULL. The areas lent to one call must not overlap.
  * The functions have no state of their own: they may be called from several threads on separate buffers.
- * The stack that a call may use is said by REMBASUK_VERDICT_STACK and REMBASUK_SLOT_STACK; tests/host/stack.c measures it.
+ * The stack that a call may use is said by REMBASUK_VERDICT_STACK, REMBASUK_SLOT_STACK, REMBASUK_SUPERFRAME_STACK and
+ * REMBASUK_TABLE_STACK; tests/host/stack.c measures it.
  */
 #ifndef REMBASUK_H
 #define REMBASUK_H
@@ -58,7 +67,7 @@ extern "C" {
 #define REMBASUK_FIRST_CHANNEL 11      /* bit 0 of the map */
 #define REMBASUK_LAST_SLOT 4000000000u /* no slot is made from here on */
 
-/* The longest text that is accepted, and the longest input of the program `plan`, in bytes. */
+/* The longest text that is accepted, and the longest input of the programs `plan` and `superframe`, in bytes. */
 #define REMBASUK_TEXT_LENGTH 8138
 #define REMBASUK_INPUT_LENGTH 16384
 
@@ -72,26 +81,42 @@ extern "C" {
 /* The table of all flows' bounds has at most this many 32-bit numbers: 64 flows of 4. */
 #define REMBASUK_TABLE_LENGTH 256
 
-/* How many bytes of stack a call may use: the verdict, the bounds of one flow and of all; and the slot. */
+/* A row of a superframe's table has this many 16-bit numbers; the longest hyper-period that is loaded, in slots; and the most numbers that a
+ * table can have, 16 rows in each of 65535 slots. A host lends that many, or asks rembasuk_superframe_size. */
+#define REMBASUK_ROW_LENGTH 4
+#define REMBASUK_MOST_HYPER_PERIOD 65536
+#define REMBASUK_SUPERFRAME_LENGTH 4194240
+
+/* A line of a table has at most this many bytes: four numbers of five digits, three tabs and LF. */
+#define REMBASUK_ROW_LINE_LENGTH 24
+
+/* How many bytes of stack a call may use: the verdict, the bounds of one flow and of all; the slot; the superframe and its size; a table
+ * written or read, and the channel. */
 #define REMBASUK_VERDICT_STACK 65536
 #define REMBASUK_SLOT_STACK 32768
+#define REMBASUK_SUPERFRAME_STACK 65536
+#define REMBASUK_TABLE_STACK 16384
 
 /* The refusals by number, as the answers have them. 1 to 9 name the text's line, counted from 1; the others line 0. */
 typedef enum {
     REMBASUK_NOT_REFUSED = 0,
-    REMBASUK_BAD_FORM = 1,         /* the line lacks its form: a wrong word or number, blanks for tabs, CR, no LF at the end, empty text */
-    REMBASUK_NO_CHANNEL = 2,       /* map 0 */
-    REMBASUK_TOO_MANY_FLOWS = 3,   /* a 65th flow */
-    REMBASUK_BAD_PERIOD = 4,       /* period 0 */
-    REMBASUK_BAD_DEADLINE = 5,     /* deadline 0 or above the period */
-    REMBASUK_BAD_TRIES = 6,        /* tries outside 1 to 4 */
-    REMBASUK_BAD_ROUTE = 7,        /* fewer than 2 or more than 17 nodes */
-    REMBASUK_EQUAL_NEIGHBOURS = 8, /* a node equals the one just before it in the route */
-    REMBASUK_TOO_MUCH_WORK = 9,    /* links x tries above the deadline */
-    REMBASUK_NO_ROOM = 10,         /* the lent buffer is shorter than what is to be written */
-    REMBASUK_AT_LAST_SLOT = 11,    /* the state is at slot 4000000000 */
-    REMBASUK_BAD_STATE = 12,       /* its slot is above the last, a count is above its flow's C or beyond the last flow, or it has not 68 bytes */
-    REMBASUK_NO_SUCH_FLOW = 13     /* no flow of that number */
+    REMBASUK_BAD_FORM = 1,          /* the line lacks its form: a wrong word or number, blanks for tabs, CR, no LF at the end, an empty text of a set;
+                                       of a table also a line that does not rise above the one before */
+    REMBASUK_NO_CHANNEL = 2,        /* map 0 */
+    REMBASUK_TOO_MANY_FLOWS = 3,    /* a 65th flow */
+    REMBASUK_BAD_PERIOD = 4,        /* period 0 */
+    REMBASUK_BAD_DEADLINE = 5,      /* deadline 0 or above the period */
+    REMBASUK_BAD_TRIES = 6,         /* tries outside 1 to 4 */
+    REMBASUK_BAD_ROUTE = 7,         /* fewer than 2 or more than 17 nodes */
+    REMBASUK_EQUAL_NEIGHBOURS = 8,  /* a node equals the one just before it in the route */
+    REMBASUK_TOO_MUCH_WORK = 9,     /* links x tries above the deadline */
+    REMBASUK_NO_ROOM = 10,          /* the lent buffer is shorter than what is to be written */
+    REMBASUK_AT_LAST_SLOT = 11,     /* the state is at slot 4000000000 */
+    REMBASUK_BAD_STATE = 12,        /* its slot is above the last, a count is above its flow's C or beyond the last flow, or it has not 68 bytes */
+    REMBASUK_NO_SUCH_FLOW = 13,     /* no flow of that number */
+    REMBASUK_NOT_ADMITTED = 14,     /* neither test admits the set */
+    REMBASUK_LATE_START = 15,       /* a flow starts at another slot than 0 */
+    REMBASUK_LONG_HYPER_PERIOD = 16 /* the hyper-period is above 65536 slots */
 } rembasuk_refusal;
 
 /* A refusal in English, for whoever typed the set; any number is answered. Plain C of this header, not of the library. */
@@ -99,7 +124,7 @@ static inline const char *rembasuk_refusal_text(uint32_t refusal)
 {
     switch (refusal) {
     case REMBASUK_NOT_REFUSED: return "not refused";
-    case REMBASUK_BAD_FORM: return "the line lacks the form of a set's text";
+    case REMBASUK_BAD_FORM: return "the line lacks its form, or a table's line its order";
     case REMBASUK_NO_CHANNEL: return "the channel map is 0";
     case REMBASUK_TOO_MANY_FLOWS: return "there are more than 64 flows";
     case REMBASUK_BAD_PERIOD: return "the period is 0";
@@ -112,6 +137,9 @@ static inline const char *rembasuk_refusal_text(uint32_t refusal)
     case REMBASUK_AT_LAST_SLOT: return "the state is at the last slot";
     case REMBASUK_BAD_STATE: return "the bytes are no state of this set";
     case REMBASUK_NO_SUCH_FLOW: return "the set has no flow of that number";
+    case REMBASUK_NOT_ADMITTED: return "neither test admits the set";
+    case REMBASUK_LATE_START: return "a flow starts at another slot than 0";
+    case REMBASUK_LONG_HYPER_PERIOD: return "the hyper-period is above 65536 slots";
     default: return "unknown refusal";
     }
 }
@@ -119,7 +147,7 @@ static inline const char *rembasuk_refusal_text(uint32_t refusal)
 /* What the two delay tests say of a set. A refused verdict has zeros from `basic` on. */
 typedef struct {
     uint32_t refusal;   /* 0, or 1 to 9 */
-    uint32_t line;      /* the line that is refused, or 0 */
+    size_t line;        /* the line that is refused, or 0 */
     uint32_t basic;     /* 1 if the basic test admits the set */
     uint32_t tightened; /* 1 if the tightened test admits it; it admits whatever the basic test admits */
     uint32_t rounds;    /* how many rounds the tightened test took */
@@ -128,7 +156,7 @@ typedef struct {
 /* One flow's bounds, in slots. A refused answer has zeros from `work` on. */
 typedef struct {
     uint32_t refusal;   /* 0, 1 to 9, or 13 */
-    uint32_t line;      /* the line that is refused, or 0 */
+    size_t line;        /* the line that is refused, or 0 */
     uint32_t work;      /* C, the transmissions of one packet: links x tries */
     uint32_t basic;     /* the basic delay bound */
     uint32_t tightened; /* the tightened delay bound */
@@ -139,7 +167,7 @@ typedef struct {
 /* What one slot wrote. */
 typedef struct {
     uint32_t refusal;   /* 0, 1 to 9, 12, 11 or 10, in this order where several apply */
-    uint32_t line;      /* the line that is refused, or 0 */
+    size_t line;        /* the line that is refused, or 0 */
     size_t length;      /* how many bytes of the second buffer are the slot's `send` lines; 0 if refused */
 } rembasuk_slot_answer;
 
@@ -160,7 +188,7 @@ rembasuk_slot_answer rembasuk_slot(const uint8_t *text, size_t text_length, uint
 /* What the bounds of all flows wrote. */
 typedef struct {
     uint32_t refusal;   /* 0, 1 to 9, or 10 */
-    uint32_t line;      /* the line that is refused, or 0 */
+    size_t line;        /* the line that is refused, or 0 */
     size_t numbers;     /* how many 32-bit numbers of the table are the flows' bounds, four a flow; 0 if refused */
 } rembasuk_table_answer;
 
@@ -169,6 +197,35 @@ typedef struct {
  * are always enough. The tightened test's rounds are made once, where a call of rembasuk_bounds for each flow makes them again.
  * On any refusal the table does not change. Refusals: 1 to 9, then 10. */
 rembasuk_table_answer rembasuk_all_bounds(const uint8_t *text, size_t text_length, uint32_t *table, size_t room);
+
+/* What is said of a superframe. A refused answer has zeros from `hyper` on. */
+typedef struct {
+    uint32_t refusal;   /* 0, 1 to 9, 14, 15, 16, and 10 where a table is lent, in this order where several apply */
+    size_t line;        /* the line that is refused, or 0 */
+    uint32_t hyper;     /* the hyper-period in slots, 1 to 65535; 1 with no flows */
+    size_t numbers;     /* how many 16-bit numbers the table has, four a transmission */
+} rembasuk_superframe_answer;
+
+/* How long the superframe of the set in `text` is: what a host has to lend. Refusals: 1 to 9, then 14, 15, 16. */
+rembasuk_superframe_answer rembasuk_superframe_size(const uint8_t *text, size_t text_length);
+
+/* The superframe of the set in `text`, at the start of `table`, whose further numbers stay as they were. `room` counts 16-bit numbers, as
+ * `numbers` does. On any refusal the table does not change. Refusals: 1 to 9, then 14, 15, 16, 10. */
+rembasuk_superframe_answer rembasuk_superframe(const uint8_t *text, size_t text_length, uint16_t *table, size_t room);
+
+/* A table of `numbers` 16-bit numbers as lines at the start of `lines`, whose further bytes stay as they were: each row four numbers parted by
+ * one tab and ended by LF, no word. Any table is taken: up to three numbers behind the last whole row don't count, and its order is not
+ * tested. On a refusal no byte changes. Refusals: 10. `length` of the answer is how many bytes are the lines. */
+rembasuk_slot_answer rembasuk_table_write(const uint16_t *table, size_t numbers, uint8_t *lines, size_t room);
+
+/* Such lines read into the start of `table`, whose further numbers stay as they were. 1 names the first line that has not this form or whose
+ * slot and offset do not rise strictly above those of the line before; then 10 where the rows don't fit. An empty text is an empty
+ * table. No set is asked: flows, numbers and offsets are not tested. On a refusal the table does not change. */
+rembasuk_table_answer rembasuk_table_read(const uint8_t *lines, size_t length, uint16_t *table, size_t room);
+
+/* The radio channel of an offset in a slot: the one at place (slot + offset) mod m among the m channels of the map in rising order. 0 for map 0
+ * and for a number above 65535, which is no map. */
+uint32_t rembasuk_channel(uint32_t map, uint32_t slot, uint32_t offset);
 
 #ifdef __cplusplus
 }

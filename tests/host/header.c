@@ -11,6 +11,9 @@
 #if REMBASUK_LAST_SLOT != 4000000000u || REMBASUK_MOST_NODES != REMBASUK_MOST_LINKS + 1 || REMBASUK_STATE_LENGTH != 4 + REMBASUK_MOST_FLOWS
 #error "the limits"
 #endif
+#if REMBASUK_SUPERFRAME_LENGTH != REMBASUK_ROW_LENGTH * REMBASUK_MOST_CHANNELS * (REMBASUK_MOST_HYPER_PERIOD - 1) || REMBASUK_ROW_LINE_LENGTH != 24
+#error "the table's lengths"
+#endif
 #if REMBASUK_LINES_LENGTH != 36 * REMBASUK_MOST_CHANNELS || REMBASUK_TEXT_LENGTH > REMBASUK_INPUT_LENGTH
 #error "the lengths"
 #endif
@@ -19,16 +22,29 @@ int main(void)
 {
     uint32_t i, j;
     char version[64];
-    const rembasuk_refusal last = REMBASUK_NO_SUCH_FLOW;
+    const rembasuk_refusal last = REMBASUK_LONG_HYPER_PERIOD;
     const char *set = "set\t1\nflow\t10\t2\t0\t1\t1\t2\n";
     rembasuk_verdict_answer v = rembasuk_verdict((const uint8_t *)set, strlen(set));
     rembasuk_bounds_answer b = rembasuk_bounds((const uint8_t *)set, strlen(set), 1);
     uint8_t state[REMBASUK_STATE_LENGTH], lines[REMBASUK_LINES_LENGTH];
+    uint16_t table[REMBASUK_ROW_LENGTH];
+    rembasuk_superframe_answer f = rembasuk_superframe((const uint8_t *)set, strlen(set), table, REMBASUK_ROW_LENGTH);
+    rembasuk_table_answer r;
     rembasuk_slot_answer s;
     memset(state, 0, sizeof state);
     s = rembasuk_slot((const uint8_t *)set, strlen(set), state, sizeof state, lines, sizeof lines);
     if (v.refusal != REMBASUK_NOT_REFUSED || b.refusal != REMBASUK_NO_SUCH_FLOW || s.refusal != REMBASUK_NOT_REFUSED || s.length != 18) {
         puts("header: a call is answered otherwise");
+        return 1;
+    }
+    if (f.refusal != REMBASUK_NOT_REFUSED || f.hyper != 10 || f.numbers != 4 || rembasuk_superframe_size((const uint8_t *)set, strlen(set)).numbers != 4) {
+        puts("header: the superframe is answered otherwise");
+        return 1;
+    }
+    s = rembasuk_table_write(table, f.numbers, lines, sizeof lines);
+    r = rembasuk_table_read(lines, s.length, table, REMBASUK_ROW_LENGTH);
+    if (s.length != 8 || r.refusal != REMBASUK_NOT_REFUSED || r.numbers != 4 || rembasuk_channel(1, 9, 0) != REMBASUK_FIRST_CHANNEL) {
+        puts("header: a table is answered otherwise");
         return 1;
     }
     sprintf(version, "%d.%d.%d", REMBASUK_VERSION_MAJOR, REMBASUK_VERSION_MINOR, REMBASUK_VERSION_PATCH);

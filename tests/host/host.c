@@ -1,76 +1,9 @@
-/* A C host of the planner: every exported function on good and bad input, short and overlong buffers, every refusal, and P1 to P8 and P11
- * of document 01 with two more routes that return, slot by slot from the fresh state. Each lent buffer stands right before, and again right
- * after, a page that may not be touched, and the bytes around it are compared, since a sanitizer does not see into the archive. */
-#define _DEFAULT_SOURCE
-#include <stdio.h>
-#include <stdlib.h>
-#include <string.h>
-#include <sys/mman.h>
-#include <unistd.h>
-
-#include "rembasuk.h"
+/* A C host of the planner: every exported function but those of request 2 (superframe.c) on good and bad input, short and overlong buffers,
+ * every refusal, and P1 to P8 and P11 of document 01 with two more routes that return, slot by slot from the fresh state. Each lent buffer
+ * stands right before, and again right after, a page that may not be touched, and the bytes around it are compared. */
+#include "area.h"
 
 #include "busy.h"
-
-static int failures;
-static int checks;
-
-#define CHECK(test)                                                                                                                  \
-    do {                                                                                                                             \
-        checks++;                                                                                                                    \
-        if (!(test)) {                                                                                                               \
-            failures++;                                                                                                              \
-            printf("%s:%d: %s\n", __FILE__, __LINE__, #test);                                                                        \
-        }                                                                                                                            \
-    } while (0)
-
-/* ---- memory at the edge of a forbidden page */
-
-#define FILL 0xA5
-
-/* `size` writable bytes between two pages that may not be touched. */
-typedef struct {
-    uint8_t *base;
-    size_t size;
-} area;
-
-static size_t page(void) { return (size_t)sysconf(_SC_PAGESIZE); }
-
-static area area_new(size_t pages)
-{
-    area a;
-    uint8_t *all = mmap(NULL, (pages + 2) * page(), PROT_NONE, MAP_PRIVATE | MAP_ANONYMOUS, -1, 0);
-    if (all == MAP_FAILED || mprotect(all + page(), pages * page(), PROT_READ | PROT_WRITE) != 0) {
-        perror("mmap");
-        exit(2);
-    }
-    a.base = all + page();
-    a.size = pages * page();
-    memset(a.base, FILL, a.size);
-    return a;
-}
-
-/* The bytes of a length at the area's start (right after a forbidden page) or at its end (right before one), the rest filled. */
-static uint8_t *lend(area a, size_t length, int at_end)
-{
-    memset(a.base, FILL, a.size);
-    return at_end ? a.base + (a.size - length) : a.base;
-}
-
-/* Whether everything in the area outside the lent bytes is as it was. */
-static int untouched(area a, const uint8_t *lent, size_t length)
-{
-    size_t i;
-    for (i = 0; i < a.size; i++) {
-        if (a.base + i >= lent && a.base + i < lent + length) {
-            continue;
-        }
-        if (a.base[i] != FILL) {
-            return 0;
-        }
-    }
-    return 1;
-}
 
 static area text_area, state_area, lines_area, table_area;
 
@@ -209,7 +142,7 @@ static void l2_bounds(int at_end)
 
 /* ---- refusals */
 
-static void refused_text(const char *text, size_t length, uint32_t number, uint32_t line, int at_end)
+static void refused_text(const char *text, size_t length, uint32_t number, size_t line, int at_end)
 {
     uint8_t state[REMBASUK_STATE_LENGTH] = {0}, odd[3] = {1, 2, 3};
     rembasuk_verdict_answer v = verdict_of(text, length, at_end);
@@ -471,6 +404,5 @@ int main(void)
         all_bounds(at_end);
     }
     empty_buffers();
-    printf("host: %d checks, %d failed\n", checks, failures);
-    return failures != 0;
+    return said("host");
 }

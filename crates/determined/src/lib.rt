@@ -8,5 +8,6 @@ pub mod of_planner;
 pub mod of_probe;
 pub mod of_put;
 pub mod of_records;
+pub mod of_superframe;
 pub mod of_text;
 pub mod two;

@@ -2,9 +2,12 @@
 ghost use mathlib.Core.Path.{_≡_};
 use crate::two::TwoBoundsAnswer;
 use crate::two::TwoSlotAnswer;
+use crate::two::TwoSuperframeAnswer;
 use crate::two::TwoTableAnswer;
+use crate::two::TwoU32;
 use crate::two::TwoVerdictAnswer;
 use model::Bounds;
+use model::Tabled;
 use model::Verdict;
 use model::Written;
 
@@ -71,4 +74,52 @@ pub fn slot_numbers(written: Written) -> TwoSlotAnswer
     let a = planner::slot_numbers(written);
     let b = planner::slot_numbers(written);
     TwoSlotAnswer(a, b)
+}
+
+pub fn rembasuk_superframe_size(text: &[u8]) -> TwoSuperframeAnswer
+    ensures { λ r. ⌜ r .0 ≡ r .1 ⌝ }
+{
+    let a = planner::rembasuk_superframe_size(text);
+    let b = planner::rembasuk_superframe_size(text);
+    TwoSuperframeAnswer(a, b)
+}
+
+pub fn rembasuk_superframe(text: &[u8], x: &mut [u16], y: &mut [u16]) -> TwoSuperframeAnswer
+    ensures { λ r. ⌜ ((now (x .entry) ≡ now (y .entry)) → ((r .0 ≡ r .1) × (now (x .exit) ≡ now (y .exit)))) ⌝ }
+{
+    let a = planner::rembasuk_superframe(text, x);
+    let b = planner::rembasuk_superframe(text, y);
+    TwoSuperframeAnswer(a, b)
+}
+
+pub fn rembasuk_table_write(table: &[u16], x: &mut [u8], y: &mut [u8]) -> TwoSlotAnswer
+    ensures { λ r. ⌜ ((now (x .entry) ≡ now (y .entry)) → ((r .0 ≡ r .1) × (now (x .exit) ≡ now (y .exit)))) ⌝ }
+{
+    let a = planner::rembasuk_table_write(table, x);
+    let b = planner::rembasuk_table_write(table, y);
+    TwoSlotAnswer(a, b)
+}
+
+pub fn rembasuk_table_read(lines: &[u8], x: &mut [u16], y: &mut [u16]) -> TwoTableAnswer
+    ensures { λ r. ⌜ ((now (x .entry) ≡ now (y .entry)) → ((r .0 ≡ r .1) × (now (x .exit) ≡ now (y .exit)))) ⌝ }
+{
+    let a = planner::rembasuk_table_read(lines, x);
+    let b = planner::rembasuk_table_read(lines, y);
+    TwoTableAnswer(a, b)
+}
+
+pub fn rembasuk_channel(map: u32, slot: u32, offset: u32) -> TwoU32
+    ensures { λ r. ⌜ r .0 ≡ r .1 ⌝ }
+{
+    let a = planner::rembasuk_channel(map, slot, offset);
+    let b = planner::rembasuk_channel(map, slot, offset);
+    TwoU32(a, b)
+}
+
+pub fn superframe_numbers(tabled: Tabled) -> TwoSuperframeAnswer
+    ensures { λ r. ⌜ r .0 ≡ r .1 ⌝ }
+{
+    let a = planner::superframe_numbers(tabled);
+    let b = planner::superframe_numbers(tabled);
+    TwoSuperframeAnswer(a, b)
 }

@@ -6,6 +6,7 @@ use crate::two::TwoProbeRan;
 use crate::two::TwoProbeReading;
 use crate::two::TwoProbeStepped;
 use crate::two::TwoSlotAnswer;
+use crate::two::TwoSuperframeAnswer;
 use crate::two::TwoVerdictAnswer;
 use model::FlowSet;
 use model::State;
@@ -72,4 +73,20 @@ pub fn probe_plan(input: &[u8], x: &mut [u8], y: &mut [u8]) -> TwoSlotAnswer
     let a = probe::probe_plan(input, x);
     let b = probe::probe_plan(input, y);
     TwoSlotAnswer(a, b)
+}
+
+pub fn probe_superframe_size(s: FlowSet) -> TwoSuperframeAnswer
+    ensures { λ r. ⌜ r .0 ≡ r .1 ⌝ }
+{
+    let a = probe::probe_superframe_size(s);
+    let b = probe::probe_superframe_size(s);
+    TwoSuperframeAnswer(a, b)
+}
+
+pub fn probe_superframe(s: FlowSet, x: &mut [u16], y: &mut [u16]) -> TwoSuperframeAnswer
+    ensures { λ r. ⌜ ((now (x .entry) ≡ now (y .entry)) → ((r .0 ≡ r .1) × (now (x .exit) ≡ now (y .exit)))) ⌝ }
+{
+    let a = probe::probe_superframe(s, x);
+    let b = probe::probe_superframe(s, y);
+    TwoSuperframeAnswer(a, b)
 }

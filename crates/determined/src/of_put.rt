@@ -2,7 +2,6 @@
 ghost use mathlib.Core.Path.{_≡_};
 use crate::two::TwoUsize;
 use model::ChannelMap;
-use model::Fault;
 use model::Send;
 
 pub fn put_byte(x: &mut [u8], y: &mut [u8], at: usize, b: u8) -> TwoUsize
@@ -53,11 +52,11 @@ pub fn put_line(x: &mut [u8], y: &mut [u8], at: usize, word: &[u8], numbers: &[u
     TwoUsize(a, b)
 }
 
-pub fn put_refused(x: &mut [u8], y: &mut [u8], at: usize, fault: Fault) -> TwoUsize
+pub fn put_refused(x: &mut [u8], y: &mut [u8], at: usize, refusal: u32, line: u32) -> TwoUsize
     ensures { λ r. ⌜ ((now (x .entry) ≡ now (y .entry)) → ((r .0 ≡ r .1) × (now (x .exit) ≡ now (y .exit)))) ⌝ }
 {
-    let a = text::put_refused(x, at, fault);
-    let b = text::put_refused(y, at, fault);
+    let a = text::put_refused(x, at, refusal, line);
+    let b = text::put_refused(y, at, refusal, line);
     TwoUsize(a, b)
 }
 
@@ -72,5 +71,21 @@ pub fn put_sends(
 {
     let a = text::put_sends(x, at, sent, n);
     let b = text::put_sends(y, at, sent, n);
+    TwoUsize(a, b)
+}
+
+pub fn put_row(
+    x: &mut [u8],
+    y: &mut [u8],
+    at: usize,
+    slot: u32,
+    flow: u32,
+    number: u32,
+    offset: u32,
+) -> TwoUsize
+    ensures { λ r. ⌜ ((now (x .entry) ≡ now (y .entry)) → ((r .0 ≡ r .1) × (now (x .exit) ≡ now (y .exit)))) ⌝ }
+{
+    let a = text::put_row(x, at, slot, flow, number, offset);
+    let b = text::put_row(y, at, slot, flow, number, offset);
     TwoUsize(a, b)
 }

@@ -11,6 +11,7 @@ use crate::two::TwoRefusal;
 use crate::two::TwoSlot;
 use crate::two::TwoSpan;
 use crate::two::TwoState;
+use crate::two::TwoTabled;
 use crate::two::TwoU16;
 use crate::two::TwoU32;
 use crate::two::TwoVerdict;
@@ -25,6 +26,7 @@ use model::Refusal;
 use model::Slot;
 use model::Span;
 use model::State;
+use model::Tabled;
 use model::Verdict;
 use model::Written;
 
@@ -241,4 +243,20 @@ pub fn bit(test: bool) -> TwoU32
     let a = model::bit(test);
     let b = model::bit(test);
     TwoU32(a, b)
+}
+
+pub fn tabled_refused(fault: Fault) -> TwoTabled
+    ensures { λ r. ⌜ r .0 ≡ r .1 ⌝ }
+{
+    let a = Tabled::refused(fault);
+    let b = Tabled::refused(fault);
+    TwoTabled(a, b)
+}
+
+pub fn fault_or_else(fault: Fault, later: Fault) -> TwoFault
+    ensures { λ r. ⌜ r .0 ≡ r .1 ⌝ }
+{
+    let a = fault.or_else(later);
+    let b = fault.or_else(later);
+    TwoFault(a, b)
 }

@@ -15,7 +15,9 @@ use model::SlotAnswer;
 use model::Span;
 use model::State;
 use model::Stepped;
+use model::SuperframeAnswer;
 use model::TableAnswer;
+use model::Tabled;
 use model::Verdict;
 use model::VerdictAnswer;
 use model::Written;
@@ -23,6 +25,7 @@ use probe::ProbeFault;
 use probe::ProbeRan;
 use probe::ProbeReading;
 use probe::ProbeStepped;
+use superframe_table::Part;
 
 pub struct TwoSlot(pub Slot, pub Slot);
 
@@ -79,3 +82,9 @@ pub struct TwoProbeRan(pub ProbeRan, pub ProbeRan);
 pub struct TwoProbeFault(pub ProbeFault, pub ProbeFault);
 
 pub struct TwoProbeReading(pub ProbeReading, pub ProbeReading);
+
+pub struct TwoTabled(pub Tabled, pub Tabled);
+
+pub struct TwoSuperframeAnswer(pub SuperframeAnswer, pub SuperframeAnswer);
+
+pub struct TwoPart(pub Part, pub Part);

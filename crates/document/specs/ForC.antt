@@ -1,5 +1,5 @@
 -- Document 01, "What is planned, and from what": what C is answered, for every text, flow number, state and buffer. The 68 bytes of a state
--- and what a slot leaves in both buffers stand in `Program`.
+-- and what a slot leaves in both buffers stand in `Program`. The calls of request 2, the superframe and its lines, come last.
 use mathlib.Core.{Bool.{cond}, List.{List, [], _∷_, _++_}}
 use Prim.Native.Nat.{ℕ, zero, suc}
 use lib.{Dec.{ltb}, ListN.{length, drop}}
@@ -7,8 +7,10 @@ use Rattle.model.specs.declared.kinds.FlowSet.{FlowSet}
 use Rattle.model.specs.declared.answers.{Fault.{Fault}, Refusal.the-variants.{NoRoom}}
 use Rattle.model.specs.declared.answers.{Reading.{Reading}, Verdict.{Verdict}, Bounds.{Bounds}, Written.{Written}}
 use Rattle.model.specs.declared.answers.{VerdictAnswer.{VerdictAnswer}, BoundsAnswer.{BoundsAnswer}, SlotAnswer.{SlotAnswer}, TableAnswer.{TableAnswer}}
-use Rattle.model.specs.{Refusals.{good, refusalNumber, faultAt, noFault, orElse, refusedVerdict, refusedBounds}, Sums.{bit}, Sets.{used}}
+use Rattle.model.specs.declared.answers.{SuperframeAnswer.{SuperframeAnswer}, Tabled.{Tabled}}
+use Rattle.model.specs.{Refusals.{good, refusalNumber, faultAt, noFault, orElse, refusedVerdict, refusedBounds, refusedTable}, Sums.{bit}, Sets.{used}}
 use Rattle.document.specs.{Reader.{readText}, Delay.{verdictOf, boundsOf}, Program.{slotLines, slotFault}}
+use Rattle.document.specs.{Machine.{radioChannel}, Superframe.{sizeAnswer, superframeAnswer, superframeInto, writeTableAnswer, readTableAnswer}}
 
 -- the numbers of an answer: the refusal by its number, a test as 1 or 0
 abbrev pub verdictNumbers : Verdict → VerdictAnswer
@@ -93,3 +95,39 @@ slotForC text state room = slotNumbers (slotAnswer (readText text) state room)
 
 unfoldable pub allBoundsForC : List ℕ → ℕ → TableAnswer
 allBoundsForC text room = tableNumbers (tableAnswer (readText text) room)
+
+-- request 2: a table's answer in numbers, with its slots or without them
+abbrev pub superframeNumbers : Tabled → SuperframeAnswer
+superframeNumbers a =
+    record { refusal = refusalNumber (a .fault .refusal); line = a .fault .line; hyper = a .hyper; numbers = a .numbers }
+
+abbrev pub readNumbers : Tabled → TableAnswer
+readNumbers a = record { refusal = refusalNumber (a .fault .refusal); line = a .fault .line; numbers = a .numbers }
+
+-- the superframe of the set that was read, or the reader's refusal
+unfoldable pub sizeOfReading : Reading → Tabled
+sizeOfReading r = cond (good (r .fault .refusal)) (sizeAnswer (used (r .set))) (refusedTable (r .fault))
+
+unfoldable pub superframeOfReading : Reading → ℕ → Tabled
+superframeOfReading r room = cond (good (r .fault .refusal)) (superframeAnswer (used (r .set)) room) (refusedTable (r .fault))
+
+-- the lent table afterwards
+unfoldable pub superframeAfter : Reading → List ℕ → List ℕ
+superframeAfter r table = cond (good (r .fault .refusal)) (superframeInto (used (r .set)) table) table
+
+-- the five calls
+unfoldable pub sizeForC : List ℕ → SuperframeAnswer
+sizeForC text = superframeNumbers (sizeOfReading (readText text))
+
+unfoldable pub superframeForC : List ℕ → ℕ → SuperframeAnswer
+superframeForC text room = superframeNumbers (superframeOfReading (readText text) room)
+
+unfoldable pub writeTableForC : List ℕ → ℕ → SlotAnswer
+writeTableForC table room = slotNumbers (writeTableAnswer table room)
+
+unfoldable pub readTableForC : List ℕ → ℕ → TableAnswer
+readTableForC lines room = readNumbers (readTableAnswer lines room)
+
+-- the radio channel of an offset in a slot; 0 for a map without channels, and for a number that is no map
+unfoldable pub channelForC : ℕ → ℕ → ℕ → ℕ
+channelForC bits t offset = cond (ltb 65535 bits) 0 (radioChannel bits t offset)

@@ -1,6 +1,6 @@
 -- Document 01, "Sets on either side of a line": P1 to P11, with all that the document says of each, in one table under one theorem; P11 and the
 -- rows after it as request 1 has them; and rows of our own, for what none of these says: starts, several tries beside another flow, offsets,
--- deliveries, the refusals that are only run, a state's bytes, buffers, what C is answered.
+-- deliveries, the refusals that are only run, a state's bytes, buffers, what C is answered; then the sets of request 2.
 -- The sets are their texts, run through the reader's definition; the checker computes the rest.
 use mathlib.Core.{Bool.{Bool, true, false, not, _&&_}, List.{List, [], _∷_, _++_}}
 use Prim.Native.{Char.{code}, Nat.{ℕ, zero, suc, _+_}}
@@ -9,6 +9,7 @@ use lib.{Count.{ones, onesIn}, Dec.{eqb, T}, IntN.{ℤ, pos, negsuc}, ListN.{len
 use Rattle.model.specs.declared.kinds.FlowSet.{FlowSet}
 use Rattle.model.specs.declared.answers.{Fault.{Fault}, Reading.{Reading}, Send.{Send}, Delivery.{Delivery}, Stepped.{Stepped}, Written.{Written}}
 use Rattle.model.specs.declared.answers.{VerdictAnswer.{VerdictAnswer}, BoundsAnswer.{BoundsAnswer}, SlotAnswer.{SlotAnswer}, TableAnswer.{TableAnswer}}
+use Rattle.model.specs.declared.answers.SuperframeAnswer.{SuperframeAnswer}
 use Rattle.model.specs.{Refusals.{refusalNumber}, Sums.{sumTo, anyTo, allTo}, Sets.{flowAt, used, anyOf, meet, listTo, filterTo}}
 use Rattle.document.specs.Text.{same, lines, ended, fields, allDigits, valueFrom, isNumber, allNumbers, valuesOf, wellFormed, numbersOf, decimalIn, decimal, tabbed, decimals, lineOf}
 use Rattle.document.specs.Reader.{repeatAt, flowFault, flowsFault, recordFault, flowOf, withFlow, firstLineFault, flowLineFault, readFlows, setOf, readLines, readText, flowLines, textOf, pad, writeFault, writeAnswer, writeInto}
@@ -16,6 +17,8 @@ use Rattle.document.specs.Delay.{conflictWork, share, overOthers, boundW
 use Rattle.document.specs.Machine.{ready, nextCount, insert, ordered, place, channelsTo, radioChannel, sendOf, sendsFrom, sendsAt, deliveriesOf, droppedAt, badState, stepFault, stepOf, runOf, countWith, deliveredWith, droppedWith, nextWith, placedWith, runWith, stepWith}
 use Rattle.document.specs.Program.{stateLength, stateBytes, stateOf, sendNumbers, sendLines, slotLines, slotFault, slotState, slotBuffer, boundLines, runLines, planOf, planText}
 use Rattle.document.specs.ForC.{verdictOfReading, boundsOfReading, slotAnswer, boundsRows, tableFault, tableAnswer, tableAfter, verdictForC, boundsForC, slotForC, allBoundsForC}
+use Rattle.document.specs.ForC.{sizeOfReading, superframeOfReading, superframeAfter, sizeForC, superframeForC, writeTableForC, readTableForC, channelForC}
+use Rattle.document.specs.Superframe.{multipleFrom, lcm, hyperTo, hyper, rowsFrom, rowsTo, superframe, flat, sizeFault, superframeFault, sizeAnswer, superframeAnswer, superframeInto, rowLines, rowsIn, writeTableAnswer, writeTableInto, rowFormed, rowOf, above, linesFault, readTableFault, readTableAnswer, readTableInto, superframeText}
 
 -- the bytes of a quoted text
 unfoldable pub bytes : string.String → List ℕ
@@ -53,6 +56,19 @@ pub data Claim : Type 0 where
   copies : ℕ → ℕ → ℕ → Claim  -- a record of this many copies of flow 0: refusal number, line
   writes : string.String → List ℕ → string.String → Claim  -- the buffer; refusal, line, length; the buffer after it
   planOfZeros : ℕ → string.String → Claim  -- what the program prints for this many bytes 0
+  loads : ℕ → List (List ℕ) → Claim  -- the hyper-period, and the rows of the superframe
+  loadsTo : ℕ → List (List ℕ) → Claim  -- the rows of the superframe's first slots
+  loading : ℕ → ℕ → Claim  -- the refusal before that for room, and the hyper-period
+  -- the superframe for C: the table; refusal, line, hyper-period, numbers; the table after it
+  loadC : List ℕ → List ℕ → List ℕ → Claim
+  sizeC : List ℕ → Claim  -- refusal, line, hyper-period, numbers
+  frame : List string.String → Claim  -- what the program `superframe` prints, line by line
+  channelC : ℕ → ℕ → ℕ → Claim  -- slot, offset, radio channel
+  channelOf : ℕ → ℕ → Claim  -- the radio channel of slot 0 and offset 0 with this number as the map
+  -- a table's lines for C: its numbers; the buffer; refusal, line, length; the buffer after it
+  linesC : List ℕ → string.String → List ℕ → string.String → Claim
+  -- lines read for C: the table; refusal, line, numbers; the table after it
+  rowsC : string.String → List ℕ → List ℕ → List ℕ → Claim
 
 sameRows : List (List ℕ) → List (List ℕ) → Bool
 sameRows [] [] = true
@@ -68,9 +84,9 @@ flowsOf : List Send → List ℕ
 flowsOf [] = []
 flowsOf (x ∷ xs) = x .flow ∷ flowsOf xs
 
-rowsTo : FlowSet → ℕ → List (List ℕ)
-rowsTo s zero = []
-rowsTo s (suc n) = rowsTo s n ++ rows (sendsAt s (runOf s n .last))
+sendRowsTo : FlowSet → ℕ → List (List ℕ)
+sendRowsTo s zero = []
+sendRowsTo s (suc n) = sendRowsTo s n ++ rows (sendsAt s (runOf s n .last))
 
 verdictRow : VerdictAnswer → List ℕ
 verdictRow v = v .refusal ∷ v .line ∷ v .basic ∷ v .tightened ∷ v .rounds ∷ []
@@ -86,6 +102,9 @@ slotRow a = a .refusal ∷ a .line ∷ a .length ∷ []
 
 tableRow : TableAnswer → List ℕ
 tableRow a = a .refusal ∷ a .line ∷ a .numbers ∷ []
+
+frameRow : SuperframeAnswer → List ℕ
+frameRow a = a .refusal ∷ a .line ∷ a .hyper ∷ a .numbers ∷ []
 
 offsetRows : List Send → List (List ℕ)
 offsetRows [] = []
@@ -123,7 +142,7 @@ holds text r s (tights bs) = same (listTo (λ k. boundsOf s k .tightened) (s .co
 holds text r s (verdict b t) = same? (verdictOf s .basic) b && same? (verdictOf s .tightened) t
 holds text r s (rounds n) = eqb (verdictOf s .rounds) n
 holds text r s (margin k m) = sameSigned (boundsOf s k .margin) m
-holds text r s (sends n xs) = sameRows (rowsTo s n) xs
+holds text r s (sends n xs) = sameRows (sendRowsTo s n) xs
 holds text r s (flowsIn t ks) = same (flowsOf (sendsAt s (runOf s t .last))) ks
 holds text r s (drops t ks) = same (filterTo (droppedAt s (runOf s t .last)) (s .count)) ks
 holds text r s (plan p) = same (planText text) (bytesOf p)
@@ -140,6 +159,16 @@ holds text r s (lineOfFlow k l n) = eqb (refusalNumber (flowLineFault k (bytes l
 holds text r s (copies n f l) = faultIs (recordFault (used (record { map = s .map; count = n; flows = replicate n (flowAt s 0) }))) f l
 holds text r s (writes b ns b') = same (writtenRow (writeAnswer s (length (bytes b)))) ns && same (writeInto s (bytes b)) (bytes b')
 holds text r s (planOfZeros n p) = same (planText (replicate n 0)) (bytes p)
+holds text r s (loads h xs) = eqb (hyper s) h && sameRows (superframe s) xs
+holds text r s (loadsTo n xs) = sameRows (rowsTo s n) xs
+holds text r s (loading n h) = faultIs (sizeFault s) n 0 && eqb (hyper s) h
+holds text r s (loadC b ns b') = same (frameRow (superframeForC text (length b))) ns && same (superframeAfter r b) b'
+holds text r s (sizeC ns) = same (frameRow (sizeForC text)) ns
+holds text r s (frame p) = same (superframeText text) (bytesOf p)
+holds text r s (channelC t o c) = eqb (channelForC (s .map .0) t o) c
+holds text r s (channelOf m c) = eqb (channelForC m 0 0) c
+holds text r s (linesC t b ns b') = same (slotRow (writeTableForC t (length (bytes b)))) ns && same (writeTableInto t (bytes b)) (bytes b')
+holds text r s (rowsC l b ns b') = same (tableRow (readTableForC (bytes l) (length b))) ns && same (readTableInto (bytes l) b) b'
 
 allHold : List ℕ → Reading → List Claim → Bool
 allHold text r [] = true
@@ -439,8 +468,161 @@ points =
     ∷ copies 65 3 66
     ∷ []
     )
+    -- request 2: P1 with its lines; rooms; lines written and read
+    ∷ point "set\t3\nflow\t10\t8\t0\t1\t1\t2\t3\nflow\t20\t20\t0\t1\t4\t2\t5\n"
+    (loads 20
+    ((0 ∷ 0 ∷ 0 ∷ 0 ∷ [])
+    ∷ (1 ∷ 0 ∷ 1 ∷ 0 ∷ [])
+    ∷ (2 ∷ 1 ∷ 0 ∷ 0 ∷ [])
+    ∷ (3 ∷ 1 ∷ 1 ∷ 0 ∷ [])
+    ∷ (10 ∷ 0 ∷ 0 ∷ 0 ∷ [])
+    ∷ (11 ∷ 0 ∷ 1 ∷ 0 ∷ [])
+    ∷ []
+    )
+    ∷ loading 0 20
+    ∷ linesC
+    (0 ∷ 0 ∷ 0 ∷ 0 ∷ 1 ∷ 0 ∷ 1 ∷ 0 ∷ 2 ∷ 1 ∷ 0 ∷ 0 ∷ 3 ∷ 1 ∷ 1 ∷ 0 ∷ 10 ∷ 0 ∷ 0 ∷ 0 ∷ 11 ∷ 0 ∷ 1 ∷ 0 ∷ [])
+    ".................................................."
+    (0 ∷ 0 ∷ 50 ∷ [])
+    "0\t0\t0\t0\n1\t0\t1\t0\n2\t1\t0\t0\n3\t1\t1\t0\n10\t0\t0\t0\n11\t0\t1\t0\n"
+    ∷ linesC (0 ∷ 2 ∷ 0 ∷ 1 ∷ 65535 ∷ 0 ∷ 10 ∷ 0 ∷ 7 ∷ 7 ∷ 7 ∷ []) "....................." (0 ∷ 0 ∷ 21 ∷ []) "0\t2\t0\t1\n65535\t0\t10\t0\n"
+    ∷ linesC (0 ∷ 2 ∷ 0 ∷ 1 ∷ 65535 ∷ 0 ∷ 10 ∷ 0 ∷ 7 ∷ 7 ∷ 7 ∷ []) "...................." (10 ∷ 0 ∷ 0 ∷ []) "...................."
+    ∷ linesC (3 ∷ 3 ∷ 3 ∷ 3 ∷ 3 ∷ 3 ∷ 3 ∷ 3 ∷ []) ".................." (0 ∷ 0 ∷ 16 ∷ []) "3\t3\t3\t3\n3\t3\t3\t3\n.."
+    ∷ rowsC "0\t2\t0\t1\n65535\t0\t10\t0\n" (9 ∷ 9 ∷ 9 ∷ 9 ∷ 9 ∷ 9 ∷ 9 ∷ 9 ∷ 9 ∷ []) (0 ∷ 0 ∷ 8 ∷ []) (0 ∷ 2 ∷ 0 ∷ 1 ∷ 65535 ∷ 0 ∷ 10 ∷ 0 ∷ 9 ∷ [])
+    ∷ rowsC "0\t2\t0\t1\n65535\t0\t10\t0\n" (9 ∷ 9 ∷ 9 ∷ 9 ∷ 9 ∷ 9 ∷ 9 ∷ []) (10 ∷ 0 ∷ 0 ∷ []) (9 ∷ 9 ∷ 9 ∷ 9 ∷ 9 ∷ 9 ∷ 9 ∷ [])
+    ∷ rowsC "" [] (0 ∷ 0 ∷ 0 ∷ []) []
+    ∷ rowsC
+    "0\t0\t0\t1\n0\t0\t0\t2\n1\t0\t0\t0\n"
+    (9 ∷ 9 ∷ 9 ∷ 9 ∷ 9 ∷ 9 ∷ 9 ∷ 9 ∷ 9 ∷ 9 ∷ 9 ∷ 9 ∷ [])
+    (0 ∷ 0 ∷ 12 ∷ [])
+    (0 ∷ 0 ∷ 0 ∷ 1 ∷ 0 ∷ 0 ∷ 0 ∷ 2 ∷ 1 ∷ 0 ∷ 0 ∷ 0 ∷ [])
+    ∷ rowsC "0\t0\t0\t1\n0\t1\t1\t1\n" (9 ∷ 9 ∷ 9 ∷ 9 ∷ 9 ∷ 9 ∷ 9 ∷ 9 ∷ []) (1 ∷ 2 ∷ 0 ∷ []) (9 ∷ 9 ∷ 9 ∷ 9 ∷ 9 ∷ 9 ∷ 9 ∷ 9 ∷ [])
+    ∷ rowsC "1\t0\t0\t1\n0\t1\t1\t2\n" (9 ∷ 9 ∷ 9 ∷ 9 ∷ 9 ∷ 9 ∷ 9 ∷ 9 ∷ []) (1 ∷ 2 ∷ 0 ∷ []) (9 ∷ 9 ∷ 9 ∷ 9 ∷ 9 ∷ 9 ∷ 9 ∷ 9 ∷ [])
+    ∷ rowsC "0\t0\t0\t1\n0\t0\t0\n" [] (1 ∷ 2 ∷ 0 ∷ []) []
+    ∷ rowsC "0\t0\t0\t0\t0\n" [] (1 ∷ 1 ∷ 0 ∷ []) []
+    ∷ rowsC "0\t0\t0\t65536\n" [] (1 ∷ 1 ∷ 0 ∷ []) []
+    ∷ rowsC "0\t0\t0\t0\t\n" [] (1 ∷ 1 ∷ 0 ∷ []) []
+    ∷ rowsC "0\t0\t0\t0" [] (1 ∷ 1 ∷ 0 ∷ []) []
+    ∷ rowsC "\n" [] (1 ∷ 1 ∷ 0 ∷ []) []
+    ∷ channelOf 65535 11
+    ∷ channelOf 65536 0
+    ∷ channelOf 65537 0
+    ∷ channelOf 0 0
+    ∷ []
+    )
+    -- request 2: only the tightened test admits P2
+    ∷ point "set\t3\nflow\t10\t3\t0\t1\t1\t2\t3\nflow\t20\t20\t0\t1\t4\t2\t5\n"
+    (loadsTo 12
+    ((0 ∷ 0 ∷ 0 ∷ 0 ∷ [])
+    ∷ (1 ∷ 0 ∷ 1 ∷ 0 ∷ [])
+    ∷ (2 ∷ 1 ∷ 0 ∷ 0 ∷ [])
+    ∷ (3 ∷ 1 ∷ 1 ∷ 0 ∷ [])
+    ∷ (10 ∷ 0 ∷ 0 ∷ 0 ∷ [])
+    ∷ (11 ∷ 0 ∷ 1 ∷ 0 ∷ [])
+    ∷ []
+    )
+    ∷ loading 0 20
+    ∷ []
+    )
+    -- request 2: neither admits P3, whatever its starts and periods
+    ∷ point "set\t15\nflow\t10\t1\t0\t1\t1\t2\nflow\t10\t1\t0\t1\t3\t4\nflow\t10\t1\t0\t1\t5\t6\nflow\t10\t1\t0\t1\t7\t8\nflow\t10\t1\t0\t1\t9\t10\n"
+    (sizeC (14 ∷ 0 ∷ 0 ∷ 0 ∷ [])
+    ∷ frame ("refused\t14\t0\n" ∷ [])
+    ∷ []
+    )
+    ∷ point "set\t15\nflow\t10\t1\t3\t1\t1\t2\nflow\t65535\t1\t0\t1\t3\t4\nflow\t10\t1\t0\t1\t5\t6\nflow\t10\t1\t0\t1\t7\t8\nflow\t10\t1\t0\t1\t9\t10\n"
+    (sizeC (14 ∷ 0 ∷ 0 ∷ 0 ∷ [])
+    ∷ []
+    )
+    -- request 2: P7
+    ∷ point "set\t3\nflow\t10\t10\t0\t1\t1\t2\nflow\t10\t10\t0\t1\t2\t3\nflow\t10\t10\t0\t1\t4\t5\n"
+    (loads 10
+    ((0 ∷ 0 ∷ 0 ∷ 0 ∷ [])
+    ∷ (0 ∷ 2 ∷ 0 ∷ 1 ∷ [])
+    ∷ (1 ∷ 1 ∷ 0 ∷ 0 ∷ [])
+    ∷ []
+    )
+    ∷ []
+    )
+    -- request 2: F1, whose hyper-period is not the product of the periods
+    ∷ point "set\t7\nflow\t4\t4\t0\t1\t1\t2\nflow\t6\t6\t0\t2\t2\t3\n"
+    (loads 12
+    ((0 ∷ 0 ∷ 0 ∷ 0 ∷ [])
+    ∷ (1 ∷ 1 ∷ 0 ∷ 0 ∷ [])
+    ∷ (2 ∷ 1 ∷ 1 ∷ 0 ∷ [])
+    ∷ (4 ∷ 0 ∷ 0 ∷ 0 ∷ [])
+    ∷ (6 ∷ 1 ∷ 0 ∷ 0 ∷ [])
+    ∷ (7 ∷ 1 ∷ 1 ∷ 0 ∷ [])
+    ∷ (8 ∷ 0 ∷ 0 ∷ 0 ∷ [])
+    ∷ []
+    )
+    ∷ []
+    )
+    -- request 2: F2, P1 with three channels: each time the table comes round, its slots have other channels
+    ∷ point "set\t7\nflow\t10\t8\t0\t1\t1\t2\t3\nflow\t20\t20\t0\t1\t4\t2\t5\n"
+    (loadsTo 12
+    ((0 ∷ 0 ∷ 0 ∷ 0 ∷ [])
+    ∷ (1 ∷ 0 ∷ 1 ∷ 0 ∷ [])
+    ∷ (2 ∷ 1 ∷ 0 ∷ 0 ∷ [])
+    ∷ (3 ∷ 1 ∷ 1 ∷ 0 ∷ [])
+    ∷ (10 ∷ 0 ∷ 0 ∷ 0 ∷ [])
+    ∷ (11 ∷ 0 ∷ 1 ∷ 0 ∷ [])
+    ∷ []
+    )
+    ∷ loading 0 20
+    ∷ channelC 0 0 11
+    ∷ channelC 20 0 13
+    ∷ channelC 40 0 12
+    ∷ channelC 60 0 11
+    ∷ []
+    )
+    -- request 2: rooms on either side of a table of one row
+    ∷ point "set\t1\nflow\t2\t2\t0\t1\t1\t2\n"
+    (sizeC (0 ∷ 0 ∷ 2 ∷ 4 ∷ [])
+    ∷ frame ("0\t0\t0\t0\n" ∷ [])
+    ∷ loadC (9 ∷ 9 ∷ 9 ∷ 9 ∷ []) (0 ∷ 0 ∷ 2 ∷ 4 ∷ []) (0 ∷ 0 ∷ 0 ∷ 0 ∷ [])
+    ∷ loadC (9 ∷ 9 ∷ 9 ∷ 9 ∷ 9 ∷ 9 ∷ 9 ∷ []) (0 ∷ 0 ∷ 2 ∷ 4 ∷ []) (0 ∷ 0 ∷ 0 ∷ 0 ∷ 9 ∷ 9 ∷ 9 ∷ [])
+    ∷ loadC (9 ∷ 9 ∷ 9 ∷ []) (10 ∷ 0 ∷ 0 ∷ 0 ∷ []) (9 ∷ 9 ∷ 9 ∷ [])
+    ∷ []
+    )
+    -- request 2: no flows
+    ∷ point "set\t1\n"
+    (loads 1 []
+    ∷ loadC [] (0 ∷ 0 ∷ 1 ∷ 0 ∷ []) []
+    ∷ frame []
+    ∷ []
+    )
+    -- request 2: 15 before 16; the nearest hyper-periods on both sides of the limit
+    ∷ point "set\t3\nflow\t65535\t400\t5\t1\t1\t2\t3\nflow\t2\t2\t0\t1\t8\t9\n"
+    (sizeC (15 ∷ 0 ∷ 0 ∷ 0 ∷ [])
+    ∷ []
+    )
+    ∷ point "set\t3\nflow\t65535\t400\t0\t1\t1\t2\t3\nflow\t2\t2\t0\t1\t8\t9\n"
+    (loading 16 131070
+    ∷ frame ("refused\t16\t0\n" ∷ [])
+    ∷ []
+    )
+    ∷ point "set\t3\nflow\t65535\t400\t0\t1\t1\t2\t3\nflow\t5\t5\t0\t1\t8\t9\n"
+    (loading 0 65535
+    ∷ []
+    )
+    ∷ point "set\t3\nflow\t32769\t400\t0\t1\t1\t2\t3\nflow\t2\t2\t0\t1\t8\t9\n"
+    (loading 16 65538
+    ∷ []
+    )
+    -- request 2: a start in the second flow; the reader's refusals come first
+    ∷ point "set\t3\nflow\t10\t8\t0\t1\t1\t2\t3\nflow\t20\t20\t1\t1\t4\t2\t5\n"
+    (sizeC (15 ∷ 0 ∷ 0 ∷ 0 ∷ [])
+    ∷ loadC (9 ∷ []) (15 ∷ 0 ∷ 0 ∷ 0 ∷ []) (9 ∷ [])
+    ∷ []
+    )
+    ∷ point "set\t3\nflow\t10\t8\t5\t1\t1\t2\t2\n"
+    (loadC (9 ∷ []) (8 ∷ 2 ∷ 0 ∷ 0 ∷ []) (9 ∷ [])
+    ∷ frame ("refused\t8\t2\n" ∷ [])
+    ∷ []
+    )
     ∷ []
 
 pub every-point : T (every points)
-unfolding every points point allHold holds same? sameSigned faultIs writtenRow slotRow offsetRows deliveryRows reportHolds rowsTo flowsOf rows sameRows bytes bytesOf same lines ended fields allDigits valueFrom isNumber allNumbers valuesOf wellFormed numbersOf decimalIn decimal tabbed decimals lineOf repeatAt flowFault flowsFault recordFault flowOf withFlow firstLineFault flowLineFault readFlows setOf readLines readText flowLines textOf writeFault writeAnswer writeInto conflictWork share overOthers boundWith basicBound valueAt deadlines lowered roundTo roundsIn reached tightBound admits verdictOf boundsFault boundsOf ready nextCount insert ordered place placedWith channelsTo radioChannel sendOf sendsFrom countWith deliveredWith deliveriesOf droppedWith nextWith badState stepFault stepWith runWith stateBytes stateOf sendLines slotLines slotFault slotState slotBuffer boundLines runLines planOf planText verdictOfReading boundsOfReading slotAnswer boundsRows tableFault tableAnswer tableAfter verdictForC boundsForC slotForC allBoundsForC tableRow verdictRow boundsAnswerRow sumTo anyTo allTo used anyOf meet listTo filterTo ones onesIn
+unfolding every points point allHold holds same? sameSigned faultIs writtenRow slotRow offsetRows deliveryRows reportHolds sendRowsTo flowsOf rows sameRows bytes bytesOf same lines ended fields allDigits valueFrom isNumber allNumbers valuesOf wellFormed numbersOf decimalIn decimal tabbed decimals lineOf repeatAt flowFault flowsFault recordFault flowOf withFlow firstLineFault flowLineFault readFlows setOf readLines readText flowLines textOf writeFault writeAnswer writeInto conflictWork share overOthers boundWith basicBound valueAt deadlines lowered roundTo roundsIn reached tightBound admits verdictOf boundsFault boundsOf ready nextCount insert ordered place placedWith channelsTo radioChannel sendOf sendsFrom countWith deliveredWith deliveriesOf droppedWith nextWith badState stepFault stepWith runWith stateBytes stateOf sendLines slotLines slotFault slotState slotBuffer boundLines runLines planOf planText verdictOfReading boundsOfReading slotAnswer boundsRows tableFault tableAnswer tableAfter verdictForC boundsForC slotForC allBoundsForC sizeOfReading superframeOfReading superframeAfter sizeForC superframeForC writeTableForC readTableForC channelForC multipleFrom lcm hyperTo rowsFrom rowsTo flat sizeFault superframeFault sizeAnswer superframeAnswer superframeInto rowLines rowsIn writeTableAnswer writeTableInto rowFormed rowOf above linesFault readTableFault readTableAnswer readTableInto superframeText frameRow tableRow verdictRow boundsAnswerRow sumTo anyTo allTo used anyOf meet listTo filterTo ones onesIn
 every-point = tt

@@ -14,3 +14,5 @@ pub mod TestAnswers
 pub mod Codes
 pub mod Nodes
 pub mod WrittenNumbers
+pub mod FlatRows
+pub mod HyperPeriod

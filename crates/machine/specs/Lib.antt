@@ -15,3 +15,4 @@ pub mod NextReleases
 pub mod AfterChoice
 pub mod RunSlots
 pub mod RunSoFar
+pub mod RowsPut

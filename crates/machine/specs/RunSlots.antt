@@ -1,10 +1,10 @@
 -- A run goes from slot to slot with its arrays: the order of the packets holds until the next release, and a slot needs no more than how many
 -- are delivered and dropped, and each flow's next count.
-use mathlib.Core.Path.{_≡_, refl, sym, ap, _∙_}
+use mathlib.Core.Path.{_≡_, refl, sym, ap, ap₂, _∙_}
 use mathlib.Core.Logic.{_⊎_, inl, inr}
 use mathlib.Core.Bool.{Bool, true, _&&_}
 use mathlib.Core.List.{List, []}
-use Prim.Native.Nat.{ℕ, _+_, _≤_, _<_}
+use Prim.Native.Nat.{ℕ, _+_, _≤_, _<_, zero-le}
 use native.Mathlib.Nat.{le-refl}
 use native.Mathlib.Omega.{arith}
 use borrow.Author.Tests.{ltb-true, lt-ltb, leb-true, le-leb}
@@ -14,18 +14,20 @@ use Rattle.model.specs.declared.kinds.FlowSet.{FlowSet}
 use Rattle.model.specs.declared.kinds.State.{State}
 use Rattle.model.specs.declared.answers.Fault.{Fault}
 use Rattle.model.specs.declared.answers.Stepped.{Stepped}
-use Rattle.model.specs.Limits.{lastSlot, mostFlows}
-use Rattle.model.specs.Sets.{used}
+use Rattle.model.specs.Limits.{lastSlot, mostChannels, mostFlows}
+use Rattle.model.specs.Sets.{memb, used}
+use Rattle.model.specs.Sums.{bit}
 use Rattle.document.specs.Delay.{ways}
-use Rattle.document.specs.Machine.{ahead, ordered, placedAt}
+use Rattle.document.specs.Machine.{ahead, hadAt, ordered, place, placedAt}
 use Rattle.laws.specs.Accepted.{accepted, ones-pos}
+use Rattle.laws.specs.Members.{memb-empty}
 use Rattle.laws.specs.SumLaws.{and-l, and-r}
 use Rattle.laws.specs.Used.{used-count}
 use Rattle.machine.specs.ArrayLists.{Through}
 use Rattle.machine.specs.LentArrays.{Numbers, Links, Packets, packetsOf, RunArrays, runArraysOf, releasesIn, packetsIn}
 use Rattle.machine.specs.PacketNumbers.{aheadBy, readyBy, accepted-count}
 use Rattle.machine.specs.ReadyOrder.{keep, keep-ordered, waiting-each}
-use Rattle.machine.specs.PlacedChoice.{Choice, choiceBy, orderedBy, place-some}
+use Rattle.machine.specs.PlacedChoice.{Choice, choiceBy, clashOf, linkBy, orderedBy, place-some, placed-by, placed-ready}
 use Rattle.machine.specs.LinkColumns.{Routes, linkIn}
 use Rattle.machine.specs.SlotAnswers.{deliveredTo, droppedTo, countBy}
 use Rattle.machine.specs.SlotByColumns.{AfterNumbers, AfterOrder, placed-is, slot-answer, idle-slot, RanTo, ran-next, ran-idle}
@@ -57,11 +59,17 @@ pub record AfterReleases (count t : ℕ) (numbers : Numbers) (before after : Run
 abbrev pub stateAt : ℕ → List ℕ → State
 stateAt t sent = record { slot = record { 0 = t }; sent = sent }
 
--- what a slot counts in which packets wait
-pub record AfterSlot (count t m : ℕ) (p : Packets) (links : Links) (order : List ℕ) (waiting : ℕ) (counts : List ℕ) (delivered dropped left : ℕ) : Type 0 where
-  pub chosen : List ℕ
+-- the flows that a state's slot places are the first of an array, and each has had one transmission more after it
+pub record PlacedIn (s : FlowSet) (st : State) (counts chosen : List ℕ) (placed : ℕ) : Type 0 where
+  pub list : take placed chosen ≡ placedAt (used s) st
+  pub one-more : (k : ℕ) → memb k (placedAt (used s) st) ≡ true → getD counts k 0 ≡ hadAt (used s) st k + 1
+  pub few : placed ≤ mostChannels
+  pub long : length chosen ≡ mostChannels
+
+-- what a slot places and counts in which packets wait
+pub record AfterSlot (count t m : ℕ) (p : Packets) (links : Links) (order : List ℕ) (waiting : ℕ) (counts : List ℕ) (delivered dropped left : ℕ)
+    (chosen : List ℕ) (placed : ℕ) : Type 0 where
   pub marked : List ℕ
-  pub placed : ℕ
   pub choice : Choice (choiceBy m t p (linkIn (p .sent) links) order waiting) chosen marked placed
   pub delivered-is : delivered ≡ length (deliveredTo (p .sent) (p .work) marked count)
   pub dropped-is : dropped ≡ length (droppedTo t p marked count)
@@ -139,46 +147,67 @@ module _ (s : FlowSet) (t : ℕ) (numbers : Numbers) (n : AfterNumbers s numbers
       }
 
   -- a slot in which no packet waits
-  pub run-idle : after .waiting ≡ 0
-      → RanTo s fault (stateAt (t + 1) (after .sent)) delivered dropped (t + 1) × BeforeReleases s (t + 1) numbers after
+  none-ordered : after .waiting ≡ 0 → orderedBy (used s) t p ≡ []
   unfolding keep
-  run-idle e =
+  none-ordered e = sym (order-after-releases .in-order) ∙ ap (λ (z : ℕ). keep (readyBy p t) (take z (after .order))) e
+
+  none-placed : after .waiting ≡ 0 → placedAt (used s) (stateAt t (before .sent)) ≡ []
+  unfolding place
+  none-placed e =
+      sym (placed-by (used s) (stateAt t (before .sent)) p (numbers .deadline) (order-after-releases .packets))
+      ∙ ap (place (ways (used s)) (clashOf (linkBy (used s) (after .sent))) []) (none-ordered e)
+
+  pub run-idle : after .waiting ≡ 0 → (chosen : List ℕ) → length chosen ≡ mostChannels
+      → RanTo s fault (stateAt (t + 1) (after .sent)) delivered dropped (t + 1) × BeforeReleases s (t + 1) numbers after
+      × PlacedIn s (stateAt t (before .sent)) (after .sent) chosen 0
+  run-idle e chosen long =
       let r = order-after-releases in
-      let none : orderedBy (used s) t p ≡ [] = sym (r .in-order) ∙ ap (λ (z : ℕ). keep (readyBy p t) (take z (after .order))) e in
-      let idle = idle-slot s (stateAt t (before .sent)) p (numbers .deadline) (after .order) (after .waiting) r none in (
+      let none = none-placed e in
+      let idle = idle-slot s (stateAt t (before .sent)) p (numbers .deadline) (after .order) (after .waiting) r (none-ordered e) in (
         ran-idle s fault (stateAt t (before .sent)) delivered dropped t (n .good-set) l run (after .sent) idle,
         before-next-releases (after .sent) (after .waiting) (λ k h. le-refl _) (w .few) (w .in-order),
+        record { list = sym none; one-more = λ k h. absurd (memb-empty k (rw none at h)); few = zero-le; long = long },
       )
 
   -- and one in which some wait
-  module _ (links : Links) (q : Routes s links) (counts : List ℕ) (e x left : ℕ)
-      (c : AfterSlot (s .count) t (ways (used s)) p links (after .order) (after .waiting) counts e x left) where
-    placed-by-slot : Choice (placedAt (used s) (stateAt t (before .sent))) (c .chosen) (c .marked) (c .placed)
+  module _ (links : Links) (q : Routes s links) (counts : List ℕ) (e x left : ℕ) (chosen : List ℕ) (placed : ℕ)
+      (c : AfterSlot (s .count) t (ways (used s)) p links (after .order) (after .waiting) counts e x left chosen placed) where
+    placed-by-slot : Choice (placedAt (used s) (stateAt t (before .sent))) chosen (c .marked) placed
     placed-by-slot =
         rw (placed-is s (stateAt t (before .sent)) p (numbers .deadline) (after .order) (after .waiting) order-after-releases links q) at (c .choice)
 
-    waiting-left : (left ≡ after .waiting) ⊎ ((left ≡ 0) × (c .placed ≡ 0)) → WaitingInOrder (s .count) t p (after .order) left
+    waiting-left : (left ≡ after .waiting) ⊎ ((left ≡ 0) × (placed ≡ 0)) → WaitingInOrder (s .count) t p (after .order) left
     waiting-left (inl h) = rw h (w .in-order)
     waiting-left (inr h) =
         let r = order-after-releases in
         let new : ℕ → Bool = readyBy p t in
         let z : choiceBy (ways (used s)) t p (linkIn (after .sent) links) (after .order) (after .waiting) ≡ [] =
-        sym (c .choice .list) ∙ ap (λ (y : ℕ). take y (c .chosen)) (h .1) in
+        sym (c .choice .list) ∙ ap (λ (y : ℕ). take y chosen) (h .1) in
         let none = sym (r .in-order) ∙ place-some (ways (used s)) _ _ (some-way s numbers n) z in
         (new, ap (λ (y : ℕ). take y (after .order)) (h .0) ∙ sym none ∙ ap (ordered (aheadBy (after .due)) new) (used-count s), λ k b y. y)
 
     pub run-placed : RanTo s fault (stateAt (t + 1) counts) (delivered + e) (dropped + x) (t + 1)
         × BeforeReleases s (t + 1) numbers (runArraysOf (after .due) (after .next) counts (after .order) (after .soonest) left)
+        × PlacedIn s (stateAt t (before .sent)) counts chosen placed
     run-placed =
         let st : State = stateAt t (before .sent) in
         let r = order-after-releases in
-        let b = slot-answer s st p (numbers .deadline) (after .order) (after .waiting) r ahead (c .chosen) (c .marked) (c .placed) placed-by-slot
+        let y = placed-by-slot in
+        let b = slot-answer s st p (numbers .deadline) (after .order) (after .waiting) r ahead chosen (c .marked) placed y
         _ e _ x _ counts refl (c .delivered-is) refl (c .dropped-is) refl (c .counted) in (
           ran-next s fault st delivered dropped t (n .good-set) l run (stateAt (t + 1) counts) e x
               (ap (λ (z : Stepped). z .next) (sym b)) (ap (λ (z : Stepped). z .deliveries) (sym b)) (ap (λ (z : Stepped). z .drops) (sym b)),
           before-next-releases counts left (λ k h. omega (arith, c .counted .below k h)) (few-left (c .left-is)) (waiting-left (c .left-is)),
+          record {
+            list = y .list;
+            one-more = λ k h.
+                c .counted .below k (rw (used-count s) at (placed-ready ahead (used s) st k h .0))
+                ∙ ap₂ (λ (a b : ℕ). a + b) (r .packets .hads k) (y .marks k ∙ ap bit h);
+            few = y .few;
+            long = y .long-chosen;
+          },
         )
       where
-        few-left : (left ≡ after .waiting) ⊎ ((left ≡ 0) × (c .placed ≡ 0)) → left ≤ mostFlows
+        few-left : (left ≡ after .waiting) ⊎ ((left ≡ 0) × (placed ≡ 0)) → left ≤ mostFlows
         few-left (inl h) = omega (arith, w .few)
         few-left (inr h) = omega (arith, h .0)

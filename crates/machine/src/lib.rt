@@ -1,4 +1,4 @@
-// The slot machine: one step of it, and a run of many from the fresh state.
+// The slot machine: one step of it, and a run of many from the fresh state, whose transmissions can be put into a table.
 ghost use mathlib.Core.Path.{_≡_};
 ghost use Rattle.model.specs.Sets.{used};
 ghost use Rattle.document.specs.Machine.{runOf, stepOf};
@@ -9,6 +9,7 @@ mod columns;
 mod order;
 mod packets;
 mod releases;
+mod rows;
 mod runs;
 mod slot;
 mod state;
@@ -19,6 +20,8 @@ use model::FlowSet;
 use model::Ran;
 use model::State;
 use model::Stepped;
+pub use rows::rows_accepted;
+pub use slot::radio_channel;
 pub use slot::step_accepted;
 
 // Runs a budget of slots from the fresh state, as far as the last slot: the state reached, and how many packets were delivered and dropped.

@@ -4,16 +4,18 @@ ghost use Prim.Native.Nat.{_+_, _<_, _≤_, min, ℕ};
 ghost use lib.ListN.{getD, length};
 ghost use Rattle.model.specs.Sets.{used};
 ghost use Rattle.machine.specs.ArrayLists.{Through};
-ghost use Rattle.machine.specs.LentArrays.{PerFlow, linksAt, linksOf, numbersAt, numbersOf, packetsAt, runArraysAfter, runArraysAt, runArraysOf};
+ghost use Rattle.machine.specs.LentArrays.{PerFlow, PerPlaced, linksAt, linksOf, numbersAt, numbersOf, packetsAt, runArraysAfter, runArraysAt, runArraysOf};
 ghost use Rattle.machine.specs.ReadyOrder.{FlowsTo};
 ghost use Rattle.machine.specs.SlotAnswers.{countBy, deliveredTo, droppedTo};
 ghost use Rattle.model.specs.Limits.{lastSlot, mostChannels, mostFlows};
 ghost use mathlib.Core.Logic.{_⊎_};
 ghost use Rattle.machine.specs.RunSlots.{AfterSlot};
 ghost use Rattle.machine.specs.RunSoFar.{RunOfSome, SlotRuns, SlotsRun};
-ghost use Rattle.machine.specs.SlotByColumns.{AfterNumbers};
+ghost use Rattle.machine.specs.RowsPut.{RowsFit, RowsOfSlots};
+ghost use Rattle.machine.specs.SlotByColumns.{AfterNumbers, RanTo};
 ghost use Rattle.document.specs.Reader.{recordFault};
 ghost use Rattle.document.specs.Machine.{runOf};
+ghost use Rattle.document.specs.Superframe.{atStart, flat, rowsTo};
 ghost use Rattle.machine.specs.LinkColumns.{LinksThere, Routes};
 ghost use mathlib.Core.Bool.{true};
 ghost use Rattle.model.specs.Refusals.{good};
@@ -23,6 +25,8 @@ use crate::columns::deadlines_in;
 use crate::packets::is_delivered;
 use crate::packets::is_dropped;
 use crate::releases::release_packets;
+use crate::rows::put_rows;
+use crate::rows::rows_of;
 use model::ChannelMap;
 use model::Fault;
 use model::Flow;
@@ -78,14 +82,15 @@ fn waiting_after(placed: usize, waiting: usize) -> usize
     if placed == 0 { 0 } else { waiting }
 }
 
-// How many packets a slot delivers and drops, and how many of the order wait after it.
+// How many packets a slot places, delivers and drops, and how many of the order wait after it.
 struct SlotEnd {
+    placed: usize,
     delivered: u32,
     dropped: u32,
     waiting: usize,
 }
 
-// Chooses and counts in slot t, once its releases are made.
+// Chooses and counts in slot t, once its releases are made. The placed flows are the first entries of `chosen`.
 fn count_slot(
     count: usize,
     ways: usize,
@@ -98,15 +103,16 @@ fn count_slot(
     order: &[usize; Flow::MOST],
     waiting: usize,
     sent: &mut [u8; Flow::MOST],
+    chosen: &mut [usize; ChannelMap::MOST],
 ) -> SlotEnd
-    requires { ⌜ (count ≤ mostFlows) × (ways ≤ mostChannels) × (t ≤ lastSlot) × (waiting ≤ mostFlows) × PerFlow (now order) × PerFlow (now sent) ⌝ }
+    requires { ⌜ (count ≤ mostFlows) × (ways ≤ mostChannels) × (t ≤ lastSlot) × (waiting ≤ mostFlows) × PerFlow (now order) × PerFlow (now sent)
+        × PerPlaced (now chosen) ⌝ }
     requires { ⌜ FlowsTo (now order) waiting ⌝ }
     requires { ⌜ ((k : ℕ) → getD (now sent) k 0 ≤ 64) ⌝ }
     requires { ⌜ LinksThere (now sent) (now work) (linksOf (now tries) (now routes)) ⌝ }
     ensures { λ r. ⌜ AfterSlot count t ways (packetsAt start due sent work) (linksAt tries routes) (now (order .entry)) waiting
-        (now (sent .exit)) (r .delivered) (r .dropped) (r .waiting) ⌝ }
+        (now (sent .exit)) (r .delivered) (r .dropped) (r .waiting) (now (chosen .exit)) (r .placed) ⌝ }
 {
-    let mut chosen = [0usize; ChannelMap::MOST];
     let mut marked = [0u8; Flow::MOST];
     let placed = choose(
         ways,
@@ -119,39 +125,43 @@ fn count_slot(
         routes,
         order,
         waiting,
-        &mut chosen,
+        chosen,
         &mut marked,
     );
     let got = count_and_advance(count, t, start, due, work, &marked, sent);
     SlotEnd {
+        placed,
         delivered: got.delivered,
         dropped: got.dropped,
         waiting: waiting_after(placed, waiting),
     }
 }
 
-// What a run knows after one slot: the soonest release, how many of the order wait, and how many packets the slot delivered and dropped.
+// What a run knows after one slot: the soonest release, how many of the order wait, and how many packets the slot placed, delivered and dropped.
 struct SlotRun {
     soonest: Slot,
     waiting: usize,
+    placed: usize,
     delivered: u32,
     dropped: u32,
 }
 
-// A slot in which no packet waits delivers and drops nothing.
+// A slot in which no packet waits places, delivers and drops nothing.
 fn idle_slot(soonest: Slot, waiting: usize) -> SlotRun
-    ensures { λ r. ⌜ (r .soonest ≡ soonest) × (r .waiting ≡ waiting) × (r .delivered ≡ 0) × (r .dropped ≡ 0) ⌝ }
+    ensures { λ r. ⌜ (r .soonest ≡ soonest) × (r .waiting ≡ waiting) × (r .placed ≡ 0) × (r .delivered ≡ 0) × (r .dropped ≡ 0) ⌝ }
 {
     SlotRun {
         soonest,
         waiting,
+        placed: 0,
         delivered: 0,
         dropped: 0,
     }
 }
 
 // Runs one slot. A slot without a ready packet sends, delivers and drops nothing, and until the next release the same holds of the slots
-// after it. The contract holds for every set whose numbers the arrays hold, so the set itself is not needed.
+// after it. The placed flows are the first entries of `chosen`. The contract holds for every set whose numbers the arrays hold, so the set
+// itself is not needed.
 fn run_slot(
     count: usize,
     ways: usize,
@@ -168,11 +178,14 @@ fn run_slot(
     next: &mut [u32; Flow::MOST],
     sent: &mut [u8; Flow::MOST],
     order: &mut [usize; Flow::MOST],
+    chosen: &mut [usize; ChannelMap::MOST],
 ) -> SlotRun
     requires { ⌜ (t < lastSlot) × RunOfSome count ways t (numbersOf (now start) (now period) (now deadline) (now work))
-        (linksOf (now tries) (now routes)) (runArraysOf (now due) (now next) (now sent) (now order) (soonest .0) waiting) ⌝ }
+        (linksOf (now tries) (now routes)) (runArraysOf (now due) (now next) (now sent) (now order) (soonest .0) waiting)
+        × PerPlaced (now chosen) ⌝ }
     ensures { λ r. ⌜ SlotRuns count ways t (numbersAt start period deadline work) (linksAt tries routes)
-        (runArraysAt due next sent order (soonest .0) waiting) (runArraysAfter due next sent order (r .soonest .0) (r .waiting)) (r .delivered) (r .dropped) ⌝ }
+        (runArraysAt due next sent order (soonest .0) waiting) (runArraysAfter due next sent order (r .soonest .0) (r .waiting)) (r .delivered) (r .dropped)
+        (now (chosen .exit)) (r .placed) ⌝ }
 {
     let at = release_packets(
         count,
@@ -204,10 +217,12 @@ fn run_slot(
         order,
         at.waiting,
         sent,
+        chosen,
     );
     SlotRun {
         soonest: until,
         waiting: got.waiting,
+        placed: got.placed,
         delivered: got.delivered,
         dropped: got.dropped,
     }
@@ -219,7 +234,7 @@ struct RunCounts {
     dropped: u64,
 }
 
-// Runs all slots from the first on.
+// Runs all slots from the first on; if rows are put, each slot's follow those of the slots before it at the table's start.
 fn run_all_slots(
     slots: u32,
     count: usize,
@@ -234,16 +249,24 @@ fn run_all_slots(
     next: &mut [u32; Flow::MOST],
     sent: &mut [u8; Flow::MOST],
     order: &mut [usize; Flow::MOST],
+    put: bool,
+    table: &mut [u16],
 ) -> RunCounts
     requires { ⌜ (slots ≤ lastSlot) × RunOfSome count ways 0 (numbersOf (now start) (now period) (now deadline) (now work))
         (linksOf (now tries) (now routes)) (runArraysOf (now due) (now next) (now sent) (now order) 0 0) ⌝ }
-    ensures { λ r. ⌜ SlotsRun slots count ways (numbersAt start period deadline work) (linksAt tries routes)
+    requires { ⌜ (put ≡ true → RowsFit slots count ways (numbersOf (now start) (now period) (now deadline) (now work)) (linksOf (now tries) (now routes))
+        (runArraysOf (now due) (now next) (now sent) (now order) 0 0) (length (now table))) ⌝ }
+    ensures run { λ r. ⌜ SlotsRun slots count ways (numbersAt start period deadline work) (linksAt tries routes)
         (runArraysAt due next sent order 0 0) (now (sent .exit)) (r .delivered) (r .dropped) ⌝ }
+    ensures rows { λ r. ⌜ (put ≡ true → RowsOfSlots slots count ways (numbersAt start period deadline work) (linksAt tries routes)
+        (runArraysAt due next sent order 0 0) (now (table .entry)) (now (table .exit))) ⌝ }
 {
+    let mut chosen = [0usize; ChannelMap::MOST];
     let mut soonest = Slot(0);
     let mut waiting = 0;
     let mut delivered: u64 = 0;
     let mut dropped: u64 = 0;
+    let mut at = 0;
     let mut t = 0;
     while t < slots {
         let got = run_slot(
@@ -262,12 +285,16 @@ fn run_all_slots(
             next,
             sent,
             order,
+            &mut chosen,
         );
         soonest = got.soonest;
         waiting = got.waiting;
         delivered += got.delivered as u64;
         dropped += got.dropped as u64;
-        t += 1;
+        let after = t + 1;
+        let rows = rows_of(put, got.placed);
+        at = put_rows(t, sent, &chosen, rows, at, table);
+        t = after;
     }
     RunCounts { delivered, dropped }
 }
@@ -283,10 +310,16 @@ fn reached(budget: u32) -> Slot
     }
 }
 
-// The run of an accepted set whose numbers are in arrays.
+// What a run ends with: the state, and how many packets were delivered and dropped.
+pub struct RunEnd {
+    pub last: State,
+    pub delivered: u64,
+    pub dropped: u64,
+}
+
+// The run of an accepted set whose numbers are in arrays; if rows are put, they stand at the table's start.
 fn run_columns(
     s: FlowSet,
-    fault: Fault,
     end: Slot,
     start: &[u32; Flow::MOST],
     period: &[u16; Flow::MOST],
@@ -294,10 +327,14 @@ fn run_columns(
     work: &[u8; Flow::MOST],
     tries: &[u16; Flow::MOST],
     routes: &[[u16; Flow::MOST_NODES]; Flow::MOST],
-) -> Ran
+    put: bool,
+    table: &mut [u16],
+) -> RunEnd
     requires { ⌜ AfterNumbers s (numbersOf (now start) (now period) (now deadline) (now work)) × Routes s (linksOf (now tries) (now routes)) ⌝ }
-    requires { ⌜ (fault ≡ recordFault (used s)) × (end .0 ≤ lastSlot) × PerFlow (now start) ⌝ }
-    ensures { λ r. ⌜ r ≡ runOf (used s) (end .0) ⌝ }
+    requires { ⌜ (end .0 ≤ lastSlot) × PerFlow (now start) ⌝ }
+    requires { ⌜ (put ≡ true → (end .0 ≤ 65536) × (length (flat (rowsTo (used s) (end .0))) ≤ length (now table))) ⌝ }
+    ensures run { λ r. ⌜ RanTo s (recordFault (used s)) (r .last) (r .delivered) (r .dropped) (end .0) ⌝ }
+    ensures rows { λ r. ⌜ (put ≡ true → now (table .exit) ≡ atStart (flat (rowsTo (used s) (end .0))) (now (table .entry))) ⌝ }
 {
     let count = s.count as usize;
     let map = s.map;
@@ -321,20 +358,23 @@ fn run_columns(
         &mut next,
         &mut sent,
         &mut order,
+        put,
+        table,
     );
     let last = State { slot: end, sent };
-    Ran {
-        fault,
+    RunEnd {
         last,
         delivered: got.delivered,
         dropped: got.dropped,
     }
 }
 
-// The run of an accepted set.
-pub fn run_accepted(s: FlowSet, fault: Fault, budget: u32) -> Ran
-    requires { ⌜ (good (recordFault (used s) .refusal) ≡ true) × (fault ≡ recordFault (used s)) ⌝ }
-    ensures { λ r. ⌜ r ≡ runOf (used s) budget ⌝ }
+// The run of an accepted set as far as a slot; if rows are put, they stand at the table's start.
+pub fn run_to(s: FlowSet, end: Slot, put: bool, table: &mut [u16]) -> RunEnd
+    requires { ⌜ (good (recordFault (used s) .refusal) ≡ true) × (end .0 ≤ lastSlot) ⌝ }
+    requires { ⌜ (put ≡ true → (end .0 ≤ 65536) × (length (flat (rowsTo (used s) (end .0))) ≤ length (now table))) ⌝ }
+    ensures run { λ r. ⌜ RanTo s (recordFault (used s)) (r .last) (r .delivered) (r .dropped) (end .0) ⌝ }
+    ensures rows { λ r. ⌜ (put ≡ true → now (table .exit) ≡ atStart (flat (rowsTo (used s) (end .0))) (now (table .entry))) ⌝ }
 {
     let mut start = [0u32; Flow::MOST];
     let mut period = [0u16; Flow::MOST];
@@ -351,10 +391,8 @@ pub fn run_accepted(s: FlowSet, fault: Fault, budget: u32) -> Ran
         &mut tries,
         &mut routes,
     );
-    let end = reached(budget);
     run_columns(
         s,
-        fault,
         end,
         &start,
         &period,
@@ -362,5 +400,24 @@ pub fn run_accepted(s: FlowSet, fault: Fault, budget: u32) -> Ran
         &work,
         &tries,
         &routes,
+        put,
+        table,
     )
+}
+
+// The run of an accepted set. It puts no rows, so its table may have any length.
+pub fn run_accepted(s: FlowSet, fault: Fault, budget: u32) -> Ran
+    requires { ⌜ (good (recordFault (used s) .refusal) ≡ true) × (fault ≡ recordFault (used s)) ⌝ }
+    ensures { λ r. ⌜ r ≡ runOf (used s) budget ⌝ }
+{
+    let end = reached(budget);
+    let mut table = [0u16; 1];
+    let got = run_to(s, end, false, &mut table);
+    let last = got.last;
+    Ran {
+        fault,
+        last,
+        delivered: got.delivered,
+        dropped: got.dropped,
+    }
 }

@@ -1,10 +1,10 @@
--- Document 01, "Refusal numbers".
+-- Document 01, "Refusal numbers", and those of request 2: 14 to 16.
 use mathlib.Core.{Bool.{Bool, false, cond}, List.{List, [], _∷_}}
 use Prim.Native.Nat.{ℕ}
 use lib.{Dec.{eqb}, IntN.{pos}}
-use Rattle.model.specs.declared.answers.{Bounds.{Bounds}, Fault.{Fault}, NumberRead.{NumberRead}, Refusal.{Refusal}, Verdict.{Verdict}}
+use Rattle.model.specs.declared.answers.{Bounds.{Bounds}, Fault.{Fault}, NumberRead.{NumberRead}, Refusal.{Refusal}, Tabled.{Tabled}, Verdict.{Verdict}}
 use Rattle.model.specs.declared.answers.NumberRead.the-variants.{Value, Refused}
-use Rattle.model.specs.declared.answers.Refusal.the-variants.{Nothing, BadForm, NoChannel, TooManyFlows, BadPeriod, BadDeadline, BadTries, BadRoute, EqualNeighbours, TooMuchWork, NoRoom, AtLastSlot, BadState, NoSuchFlow}
+use Rattle.model.specs.declared.answers.Refusal.the-variants.{Nothing, BadForm, NoChannel, TooManyFlows, BadPeriod, BadDeadline, BadTries, BadRoute, EqualNeighbours, TooMuchWork, NoRoom, AtLastSlot, BadState, NoSuchFlow, NotAdmitted, LateStart, LongHyperPeriod}
 
 -- the number of each case; 0 where nothing is refused
 abbrev pub refusalNumber : Refusal → ℕ
@@ -22,6 +22,9 @@ refusalNumber NoRoom = 10
 refusalNumber AtLastSlot = 11
 refusalNumber BadState = 12
 refusalNumber NoSuchFlow = 13
+refusalNumber NotAdmitted = 14
+refusalNumber LateStart = 15
+refusalNumber LongHyperPeriod = 16
 
 -- the number and the values of each case of a number's reading: the value and the place after it, or refusal 1 and none
 abbrev pub numberSays : NumberRead → ℕ × List ℕ
@@ -49,3 +52,7 @@ refusedVerdict f = record { fault = f; basic = false; tightened = false; rounds 
 
 abbrev pub refusedBounds : Fault → Bounds
 refusedBounds f = record { fault = f; work = 0; basic = 0; tightened = 0; deadline = record { 0 = 0 }; margin = pos 0 }
+
+-- a refused table has no slots and no numbers
+abbrev pub refusedTable : Fault → Tabled
+refusedTable f = record { fault = f; hyper = 0; numbers = 0 }

@@ -2,7 +2,7 @@
 ghost use mathlib.Core.Bool.{not};
 ghost use mathlib.Core.Path.{_≡_};
 ghost use Prim.Native.Nat.{_≤_};
-ghost use Rattle.model.specs.Refusals.{refusalNumber, good, faultAt, noFault, refusedVerdict, refusedBounds};
+ghost use Rattle.model.specs.Refusals.{refusalNumber, good, faultAt, noFault, orElse, refusedVerdict, refusedBounds, refusedTable};
 ghost use Rattle.model.specs.Sums.{bit};
 use crate::kinds::ChannelMap;
 use crate::kinds::Flow;
@@ -27,6 +27,9 @@ pub enum Refusal {
     AtLastSlot,
     BadState,
     NoSuchFlow,
+    NotAdmitted,
+    LateStart,
+    LongHyperPeriod,
 }
 
 impl Refusal {
@@ -49,6 +52,9 @@ impl Refusal {
             Refusal::AtLastSlot => 11,
             Refusal::BadState => 12,
             Refusal::NoSuchFlow => 13,
+            Refusal::NotAdmitted => 14,
+            Refusal::LateStart => 15,
+            Refusal::LongHyperPeriod => 16,
         }
     }
 }
@@ -59,10 +65,10 @@ pub enum NumberRead {
     Refused,
 }
 
-// A refusal with the line it names, 0 where it names none.
+// A refusal with the line it names, 0 where it names none. A table can have more lines than 32 bits count.
 pub struct Fault {
     pub refusal: Refusal,
-    pub line: u32,
+    pub line: usize,
 }
 
 impl Fault {
@@ -81,6 +87,13 @@ impl Fault {
         ensures { λ r. ⌜ r ≡ faultAt refusal 0 ⌝ }
     {
         Fault { refusal, line: 0 }
+    }
+
+    // This fault, if it refuses something, before the later one.
+    pub fn or_else(self, later: Fault) -> Fault
+        ensures { λ r. ⌜ r ≡ orElse self later ⌝ }
+    {
+        if self.refuses() { self } else { later }
     }
 
     // Whether something is refused.
@@ -160,6 +173,32 @@ impl Bounds {
     }
 }
 
+// What stands in a lent table: how many numbers, and how many slots they are for (0 where they were read from lines).
+pub struct Tabled {
+    pub fault: Fault,
+    pub hyper: u32,
+    pub numbers: usize,
+}
+
+impl Tabled {
+    // A table of more slots is refused.
+    pub const MOST_SLOTS: u32 = 65536;
+
+    // How many numbers a row has: slot, flow, transmission number, offset.
+    pub const ROW: usize = 4;
+
+    // A refusal, nothing written.
+    pub fn refused(fault: Fault) -> Tabled
+        ensures { λ r. ⌜ r ≡ refusedTable fault ⌝ }
+    {
+        Tabled {
+            fault,
+            hyper: 0,
+            numbers: 0,
+        }
+    }
+}
+
 // One transmission: in `slot`, over the link `from` to `to`.
 #[repr(C)]
 pub struct Send {
@@ -203,7 +242,7 @@ pub struct Ran {
 #[repr(C)]
 pub struct VerdictAnswer {
     pub refusal: u32,
-    pub line: u32,
+    pub line: usize,
     pub basic: u32,
     pub tightened: u32,
     pub rounds: u32,
@@ -212,7 +251,7 @@ pub struct VerdictAnswer {
 #[repr(C)]
 pub struct BoundsAnswer {
     pub refusal: u32,
-    pub line: u32,
+    pub line: usize,
     pub work: u32,
     pub basic: u32,
     pub tightened: u32,
@@ -223,7 +262,7 @@ pub struct BoundsAnswer {
 #[repr(C)]
 pub struct SlotAnswer {
     pub refusal: u32,
-    pub line: u32,
+    pub line: usize,
     pub length: usize,
 }
 
@@ -231,7 +270,16 @@ pub struct SlotAnswer {
 #[repr(C)]
 pub struct TableAnswer {
     pub refusal: u32,
-    pub line: u32,
+    pub line: usize,
+    pub numbers: usize,
+}
+
+// How many 16-bit numbers the table of a superframe has, and how many slots.
+#[repr(C)]
+pub struct SuperframeAnswer {
+    pub refusal: u32,
+    pub line: usize,
+    pub hyper: u32,
     pub numbers: usize,
 }
 

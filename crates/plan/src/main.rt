@@ -1,17 +1,15 @@
 // The plan program: a set on standard input, its plan on standard output. What fails is said on standard error.
-mod input;
-
 ghost use Prim.Native.Nat.{_≤_};
 ghost use mathlib.Core.Path.{_≡_};
 ghost use lib.ListN.{length, take};
 ghost use Rattle.document.specs.Reader.{wrote};
 ghost use Rattle.document.specs.Program.{planText};
 ghost use Rattle.plan_text.specs.PlanOfReading.{mostPlan};
-use crate::input::Input;
-use crate::input::read_input;
 use libc::STDERR_FILENO;
 use libc::STDOUT_FILENO;
 use model::Written;
+use standard_input::Input;
+use standard_input::read_input;
 
 // The plan of an input in a buffer that has room for every plan.
 fn whole_plan(input: &[u8], out: &mut [u8]) -> Written

@@ -16,7 +16,6 @@ ghost use Rattle.delay.specs.AllBounds.{AllBoundsOf};
 use crate::MOST_INPUT;
 use delay::AllBounds;
 use model::Bounds;
-use model::Fault;
 use model::FlowSet;
 use model::Refusal;
 use model::State;
@@ -78,7 +77,8 @@ pub fn is_too_long(n: usize) -> bool
 pub fn put_too_long(out: &mut [u8]) -> usize
     ensures { λ r. ⌜ Put (now (out .entry)) 0 (refusedLine (faultAt NoRoom 0)) (now (out .exit)) r ⌝ }
 {
-    put_refused(out, 0, Fault::of(Refusal::NoRoom))
+    let refusal = Refusal::NoRoom;
+    put_refused(out, 0, refusal.code() as u32, 0)
 }
 
 // The line of flow k: C, both bounds, deadline and margin.

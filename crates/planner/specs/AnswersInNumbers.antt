@@ -11,7 +11,9 @@ use Rattle.model.specs.declared.answers.VerdictAnswer.{VerdictAnswer}
 use Rattle.model.specs.declared.answers.BoundsAnswer.{BoundsAnswer}
 use Rattle.model.specs.declared.answers.SlotAnswer.{SlotAnswer}
 use Rattle.model.specs.declared.answers.TableAnswer.{TableAnswer}
-use Rattle.document.specs.ForC.{boundsNumbers, slotNumbers, tableNumbers, verdictNumbers}
+use Rattle.model.specs.declared.answers.SuperframeAnswer.{SuperframeAnswer}
+use Rattle.model.specs.declared.answers.Tabled.{Tabled}
+use Rattle.document.specs.ForC.{boundsNumbers, readNumbers, slotNumbers, superframeNumbers, tableNumbers, verdictNumbers}
 
 abbrev verdictWith : Verdict → ℕ → ℕ → ℕ → VerdictAnswer
 verdictWith v n b t = record { refusal = n; line = v .fault .line; basic = b; tightened = t; rounds = v .rounds }
@@ -46,3 +48,15 @@ tableWith w n = record { refusal = n; line = w .fault .line; numbers = w .length
 
 pub table-numbers : (w : Written) (n : ℕ) → n ≡ refusalNumber (w .fault .refusal) → tableWith w n ≡ tableNumbers w
 table-numbers w n e = rw e
+
+abbrev superframeWith : Tabled → ℕ → SuperframeAnswer
+superframeWith a n = record { refusal = n; line = a .fault .line; hyper = a .hyper; numbers = a .numbers }
+
+pub superframe-numbers : (a : Tabled) (n : ℕ) → n ≡ refusalNumber (a .fault .refusal) → superframeWith a n ≡ superframeNumbers a
+superframe-numbers a n e = rw e
+
+abbrev readWith : Tabled → ℕ → TableAnswer
+readWith a n = record { refusal = n; line = a .fault .line; numbers = a .numbers }
+
+pub read-numbers : (a : Tabled) (n : ℕ) → n ≡ refusalNumber (a .fault .refusal) → readWith a n ≡ readNumbers a
+read-numbers a n e = rw e

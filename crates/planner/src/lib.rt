@@ -1,13 +1,16 @@
-// What C calls: the verdict, one flow's bounds, those of all flows, and one slot, over a set's text.
+// What C calls: the verdict, one flow's bounds, those of all flows, one slot and the superframe, over a set's text; a table's lines; a radio channel.
 ghost use mathlib.Core.Path.{_≡_};
 ghost use lib.ListN.{length};
 ghost use Rattle.document.specs.Reader.{readText};
 ghost use Rattle.document.specs.Program.{slotBuffer, slotState};
+ghost use Rattle.document.specs.Superframe.{readTableInto, writeTableInto};
 ghost use Rattle.document.specs.ForC.{allBoundsForC, boundsForC, slotForC, tableAfter, verdictForC};
+ghost use Rattle.document.specs.ForC.{channelForC, readTableForC, sizeForC, superframeAfter, superframeForC, writeTableForC};
 
 mod answers;
 mod slots;
 mod state_bytes;
+mod superframes;
 mod tables;
 
 pub use answers::bounds_numbers;
@@ -15,8 +18,10 @@ pub use answers::slot_numbers;
 pub use answers::verdict_numbers;
 use model::BoundsAnswer;
 use model::SlotAnswer;
+use model::SuperframeAnswer;
 use model::TableAnswer;
 use model::VerdictAnswer;
+pub use superframes::superframe_numbers;
 
 // Both verdicts of the set in `text`; a text that is refused has the reader's refusal and line, and zeros.
 #[no_mangle]
@@ -61,4 +66,54 @@ pub extern "C" fn rembasuk_slot(text: &[u8], state: &mut [u8], lines: &mut [u8])
     let reading = text::read(text);
     let written = slots::slot_of_reading(reading, state, lines);
     slot_numbers(written)
+}
+
+// How long the superframe of the set in `text` is: its slots, and the numbers that its table needs. The text's refusals, then 14, 15, 16.
+#[no_mangle]
+pub extern "C" fn rembasuk_superframe_size(text: &[u8]) -> SuperframeAnswer
+    ensures { λ r. ⌜ r ≡ sizeForC (now (text .entry)) ⌝ }
+{
+    let reading = text::read(text);
+    let size = superframes::size_of_reading(reading);
+    superframe_numbers(size)
+}
+
+// The superframe of the set in `text`: slot, flow, transmission number and offset of each transmission of one hyper-period at the start of `table`.
+// The text's refusals, then 14, 15, 16 and 10; a refusal changes nothing.
+#[no_mangle]
+pub extern "C" fn rembasuk_superframe(text: &[u8], table: &mut [u16]) -> SuperframeAnswer
+    ensures { λ r. ⌜ r ≡ superframeForC (now (text .entry)) (length (now (table .entry))) ⌝ }
+    ensures { λ r. ⌜ now (table .exit) ≡ superframeAfter (readText (now (text .entry))) (now (table .entry)) ⌝ }
+{
+    let reading = text::read(text);
+    let tabled = superframes::superframe_of_reading(reading, table);
+    superframe_numbers(tabled)
+}
+
+// The lines of a table's whole rows at the start of `lines`, or 10; a refusal changes nothing.
+#[no_mangle]
+pub extern "C" fn rembasuk_table_write(table: &[u16], lines: &mut [u8]) -> SlotAnswer
+    ensures { λ r. ⌜ r ≡ writeTableForC (now (table .entry)) (length (now (lines .entry))) ⌝ }
+    ensures { λ r. ⌜ now (lines .exit) ≡ writeTableInto (now (table .entry)) (now (lines .entry)) ⌝ }
+{
+    let written = text::write_table(table, lines);
+    slot_numbers(written)
+}
+
+// The rows of a table's lines at the start of `table`: 1 with the line for form or order, then 10; a refusal changes nothing.
+#[no_mangle]
+pub extern "C" fn rembasuk_table_read(lines: &[u8], table: &mut [u16]) -> TableAnswer
+    ensures { λ r. ⌜ r ≡ readTableForC (now (lines .entry)) (length (now (table .entry))) ⌝ }
+    ensures { λ r. ⌜ now (table .exit) ≡ readTableInto (now (lines .entry)) (now (table .entry)) ⌝ }
+{
+    let tabled = text::read_table(lines, table);
+    superframes::read_numbers(tabled)
+}
+
+// The radio channel of an offset in a slot, by which a device sends that repeats a table; 0 where `map` is 0 or above 65,535.
+#[no_mangle]
+pub extern "C" fn rembasuk_channel(map: u32, slot: u32, offset: u32) -> u32
+    ensures { λ r. ⌜ r ≡ channelForC map slot offset ⌝ }
+{
+    superframes::channel_of(map, slot, offset)
 }

@@ -1,7 +1,6 @@
 // One slot for C: what is refused before the step, and the step's answer written into the two lent buffers.
 ghost use mathlib.Core.Path.{_≡_};
 ghost use lib.ListN.{length, take};
-ghost use Rattle.model.specs.Refusals.{orElse};
 ghost use Rattle.document.specs.Program.{sendLines, slotBuffer, slotState};
 ghost use Rattle.document.specs.ForC.{slotAnswer};
 ghost use Rattle.text.specs.Put.{Put};
@@ -19,13 +18,6 @@ use model::Stepped;
 use model::Written;
 use text::put_sends;
 
-// The first fault, if it refuses something, before the later one.
-fn or_else(first: Fault, later: Fault) -> Fault
-    ensures { λ r. ⌜ r ≡ orElse first later ⌝ }
-{
-    if first.refuses() { first } else { later }
-}
-
 // 12 for a length other than 68.
 fn length_fault(n: usize) -> Fault
     ensures { λ r. ⌜ r ≡ lengthFault n ⌝ }
@@ -40,7 +32,7 @@ fn length_fault(n: usize) -> Fault
 fn fault_before_step(fault: Fault, n: usize) -> Fault
     ensures { λ r. ⌜ r ≡ faultBeforeStep fault n ⌝ }
 {
-    or_else(fault, length_fault(n))
+    fault.or_else(length_fault(n))
 }
 
 // The length of a slot's `send` lines: where they end in a buffer that is too short for them.

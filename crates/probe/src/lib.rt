@@ -7,7 +7,8 @@ ghost use Rattle.document.specs.Reader.{readText, recordFault, writeAnswer, wri
 ghost use Rattle.document.specs.Delay.{boundsOf, verdictOf};
 ghost use Rattle.document.specs.Machine.{runOf, stepOf};
 ghost use Rattle.document.specs.Program.{planAnswer, planInto};
-ghost use Rattle.document.specs.ForC.{boundsNumbers, slotNumbers, verdictNumbers};
+ghost use Rattle.document.specs.Superframe.{sizeAnswer, superframeAnswer, superframeInto};
+ghost use Rattle.document.specs.ForC.{boundsNumbers, slotNumbers, superframeNumbers, verdictNumbers};
 ghost use Rattle.probe.specs.RecordNumbers.{faultNumbers, ranNumbers, readingNumbers, steppedNumbers};
 use model::BoundsAnswer;
 use model::ChannelMap;
@@ -21,12 +22,13 @@ use model::Send;
 use model::SlotAnswer;
 use model::State;
 use model::Stepped;
+use model::SuperframeAnswer;
 use model::VerdictAnswer;
 
 #[repr(C)]
 pub struct ProbeFault {
     pub refusal: u32,
-    pub line: u32,
+    pub line: usize,
 }
 
 #[repr(C)]
@@ -178,4 +180,23 @@ pub extern "C" fn probe_run(s: FlowSet, budget: u32) -> ProbeRan
     ensures { λ r. ⌜ r ≡ ranNumbers (runOf (used s) budget) ⌝ }
 {
     ran_numbers(machine::run(s, budget))
+}
+
+// How long a superframe is.
+#[no_mangle]
+pub extern "C" fn probe_superframe_size(s: FlowSet) -> SuperframeAnswer
+    ensures { λ r. ⌜ r ≡ superframeNumbers (sizeAnswer (used s)) ⌝ }
+{
+    planner::superframe_numbers(superframe_table::superframe_size(s))
+}
+
+// A superframe.
+#[no_mangle]
+pub extern "C" fn probe_superframe(s: FlowSet, table: &mut [u16]) -> SuperframeAnswer
+    ensures { λ r. ⌜
+        (r ≡ superframeNumbers (superframeAnswer (used s) (length (now (table .entry)))))
+        × (now (table .exit) ≡ superframeInto (used s) (now (table .entry)))
+        ⌝ }
+{
+    planner::superframe_numbers(superframe_table::superframe(s, table))
 }

@@ -96,7 +96,7 @@ module _ (text : List ℕ) (read : good (readText text .fault .refusal) ≡ true
       )
 
   -- and its report shows that, and the state in which the next slot begins
-  reported : (t : ℕ) → t < lastSlot → sendsOf (report stepOf (setIn text) t) ≡ sentIn text t
+  pub reported : (t : ℕ) → t < lastSlot → sendsOf (report stepOf (setIn text) t) ≡ sentIn text t
   reported t h = ap sendsOf (report-good deadline-order (setIn text) passes t h) ∙ take-filled mostChannels noSend (sentIn text t) (few t)
 
   next-is : (t : ℕ) → stateIn text (suc t) ≡ report stepOf (setIn text) t .next

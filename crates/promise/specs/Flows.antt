@@ -149,7 +149,7 @@ module _ (s : FlowSet) (g : good (recordFault s .refusal) ≡ true) (v : List �
     (fit : (l : ℕ) → l < s .count → getD v l 0 ≤ deadline s l)
     (holds : (l : ℕ) → l < s .count → min (deadline s l) (valueAt s v l) ≤ getD v l 0) where
   -- every packet of a flow whose value is at most its deadline is complete in that many slots
-  complete : (k j : ℕ) → k < s .count → valueAt s v k ≤ deadline s k → release (flowAt s k) j + valueAt s v k ≤ lastSlot
+  pub complete : (k j : ℕ) → k < s .count → valueAt s v k ≤ deadline s k → release (flowAt s k) j + valueAt s v k ≤ lastSlot
       → count (placedIn ahead s k) (release (flowAt s k) j) (valueAt s v k) ≡ workAt s k
   complete k j l d h =
       rw (value-is s g v k) at (done (timetable deadline-order s g) (urgent s g) (λ l. getD v l 0) fit (λ l i. rw (value-is s g v l) (holds l i)) k j l

@@ -4,6 +4,7 @@ pub mod SlotChoice
 pub mod DeadlineOrder
 pub mod Within
 pub mod Promise
+pub mod Repeated
 pub mod Larger
 pub mod RunStates
 pub mod Timetable
@@ -19,3 +20,14 @@ pub mod Refuted
 pub mod SentLines
 pub mod Calls
 pub mod FullLines
+pub mod SameChoice
+pub mod Shifts
+pub mod ShiftedSlots
+pub mod ShiftedRun
+pub mod SlotRows
+pub mod SlotsRepeat
+pub mod TableShape
+pub mod TableLength
+pub mod LeastHyper
+pub mod EveryTable
+pub mod LoadedCalls

@@ -1,8 +1,8 @@
 -- The run of the machine from the fresh state, with any order of priority: in slot t its state is at t, every count is at most C and 0 beyond
--- the last flow, so no step before the last slot is refused.
+-- the last flow, so no step before the last slot is refused; there the run stands still.
 use mathlib.Core.Path.{_≡_, refl, ap, _∙_}
 use mathlib.Core.Bool.{Bool, true, false, cond}
-use Prim.Native.Nat.{ℕ, zero, suc, _+_, _≤_, _<_, zero-le}
+use Prim.Native.Nat.{ℕ, zero, suc, _+_, _≤_, _<_, zero-le, min}
 use native.Mathlib.Decide.{decLe}
 use native.Mathlib.Numerals.{add-one}
 use native.Mathlib.Omega.{arith}
@@ -13,7 +13,8 @@ use Rattle.model.specs.declared.kinds.FlowSet.{FlowSet}
 use Rattle.model.specs.declared.kinds.State.{State}
 use Rattle.model.specs.declared.answers.Stepped.{Stepped}
 use Rattle.model.specs.Limits.{mostFlows, lastSlot}
-use Rattle.model.specs.Refusals.{good, noFault}
+use Rattle.model.specs.declared.answers.Refusal.the-variants.{AtLastSlot, BadState}
+use Rattle.model.specs.Refusals.{good, faultAt, noFault}
 use Rattle.model.specs.Sums.{bit, anyTo}
 use Rattle.model.specs.Sets.{flowAt, freshState, memb, listTo}
 use Rattle.document.specs.Reader.{recordFault}
@@ -87,6 +88,15 @@ sound-fault : (s : FlowSet) (t : ℕ) (st : State) → good (recordFault s .refu
     → good (stepFault s st .refusal) ≡ true
 unfolding stepFault
 sound-fault s t st g h i = rw (g, sound-good s t st (omega arith) i, lt-leb lastSlot (st .slot .0) (omega (arith, i .slot)))
+
+-- at the last slot every step is
+last-fault : (s : FlowSet) (st : State) → good (recordFault s .refusal) ≡ true → lastSlot ≤ st .slot .0 → good (stepFault s st .refusal) ≡ false
+unfolding stepFault
+last-fault s st g h = rw (g, le-leb lastSlot (st .slot .0) h) (go (badState s st))
+  where
+    go : (b : Bool) → good (cond b (faultAt BadState 0) (faultAt AtLastSlot 0) .refusal) ≡ false
+    go true = refl
+    go false = refl
 
 -- From here on: the machine with any order of priority.
 module _ {first : Priority} (o : Ordering first) where
@@ -182,10 +192,26 @@ module _ {first : Priority} (o : Ordering first) where
     few : s .count ≤ mostFlows
     few = accepted s g .count-le
 
-    -- slot t begins at t, and the next state is rule 2's
+    -- slot t begins at t,
     pub state-slot : (t : ℕ) → t ≤ lastSlot → stateAt first s t .slot .0 ≡ t
     state-slot t h = run-sound s g few t h .slot
 
+    -- as far as the last slot, where the run stands still,
+    last-state : (t : ℕ) → lastSlot ≤ stateAt first s t .slot .0 → stateAt first s (suc t) ≡ stateAt first s t
+    unfolding runWith stepWith
+    last-state t h = ap (λ (b : Bool). stepIfWith first s (stateAt first s t) b .next) (last-fault s (stateAt first s t) g h)
+
+    pub every-slot : (t : ℕ) → stateAt first s t .slot .0 ≡ min t lastSlot
+    every-slot zero = omega (arith, state-slot 0 (omega arith))
+    every-slot (suc t) =
+        elim (decLe (suc t) lastSlot) [
+          | yes h ↦ omega (arith, state-slot (suc t) h)
+          | no h ↦
+              let i = every-slot t in
+              ap (λ (st : State). st .slot .0) (last-state t (omega arith)) ∙ omega arith
+        ]
+
+    -- and the next state is rule 2's
     pub state-next : (t : ℕ) → t < lastSlot → stateAt first s (t + 1) ≡ nextWith first s (stateAt first s t)
     state-next t h = rw add-one (sound-state s t g h (run-sound s g few t (omega arith)))
 

@@ -108,7 +108,7 @@ ordered-all first ready (suc n) l h r = go (ready n) refl (ordered-all first rea
         ]
 
 -- and nothing else
-ordered-only : (first : ℕ → ℕ → Bool) (ready : ℕ → Bool) (n l : ℕ) → memb l (ordered first ready n) ≡ true → (l < n) × (ready l ≡ true)
+pub ordered-only : (first : ℕ → ℕ → Bool) (ready : ℕ → Bool) (n l : ℕ) → memb l (ordered first ready n) ≡ true → (l < n) × (ready l ≡ true)
 unfolding ordered
 ordered-only first ready zero l h = absurd (memb-empty l h)
 ordered-only first ready (suc n) l h = go (ready n) refl (ordered-only first ready n l) h

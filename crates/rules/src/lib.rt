@@ -104,14 +104,14 @@ fn flows_fault(s: FlowSet) -> Fault
         if k >= Flow::MOST {
             return Fault {
                 refusal: Refusal::TooManyFlows,
-                line: (k + 2) as u32,
+                line: k + 2,
             };
         }
         let refusal = record_flow_fault(k, s.flows[k]);
         if refusal.code() != 0 {
             return Fault {
                 refusal,
-                line: (k + 2) as u32,
+                line: k + 2,
             };
         }
         k += 1;

@@ -149,7 +149,7 @@ good-row k at t h =
     }
 
 -- a line that is not empty
-line-one : (t : List ℕ) → 0 < length t → 0 < length (line t)
+pub line-one : (t : List ℕ) → 0 < length t → 0 < length (line t)
 unfolding line
 line-one [] h = h
 line-one (b ∷ t) h = omega arith

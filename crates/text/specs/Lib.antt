@@ -12,9 +12,11 @@ pub mod FlowNumbers
 pub mod DigitsRead
 pub mod Rows
 pub mod Put
+pub mod WrittenRows
 pub mod FlowRows
 pub mod Lengths
 pub mod FirstRow
+pub mod NamedLine
 pub mod Numerals
 pub mod WriteRoom
 pub mod WrittenLines
@@ -24,3 +26,9 @@ pub mod ReadThenWritten
 pub mod HeldByCode
 pub mod WrittenThenRead
 pub mod RoundTrip
+pub mod TableLines
+pub mod EndedNumbers
+pub mod RowAtPlace
+pub mod LinesJudged
+pub mod TableRead
+pub mod TableStored

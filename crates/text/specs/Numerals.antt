@@ -15,7 +15,7 @@ use Rattle.text.specs.DigitsRead.{value-grows, good-number}
 use Rattle.text.specs.Decimals.{tenDigits, top, room-more, decimal-one, decimal-more}
 
 -- a field that does not begin with 0
-plain-of : (b : ℕ) (f : List ℕ) → eqb b 48 ≡ false → plain (b ∷ f) ≡ true
+pub plain-of : (b : ℕ) (f : List ℕ) → eqb b 48 ≡ false → plain (b ∷ f) ≡ true
 plain-of b [] h = refl
 plain-of b (c ∷ f) h = rw h
 

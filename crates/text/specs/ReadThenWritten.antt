@@ -29,12 +29,12 @@ use Rattle.text.specs.WrittenLines.{small, line-back, line-small}
 use Rattle.laws.specs.Padded.{pad-take}
 
 -- the lines put together again
-unfoldable joined : List (List ℕ) → List ℕ
+unfoldable pub joined : List (List ℕ) → List ℕ
 joined [] = []
 joined (l ∷ ls) = l ++ joined ls
 
 -- every line of a text ends where the next begins
-unfoldable eachLine : List (List ℕ) → Type 0
+unfoldable pub eachLine : List (List ℕ) → Type 0
 eachLine [] = Unit {0}
 eachLine (l ∷ ls) = (line l ≡ l) × eachLine ls
 
@@ -44,7 +44,7 @@ onto-joined true b ls = refl
 onto-joined false b [] = refl
 onto-joined false b (l ∷ ls) = refl
 
-lines-joined : (s : List ℕ) → joined (lines s) ≡ s
+pub lines-joined : (s : List ℕ) → joined (lines s) ≡ s
 unfolding joined lines
 lines-joined [] = refl
 lines-joined (b ∷ s) = onto-joined (eqb b 10) b (lines s) ∙ ap (λ (l : List ℕ). b ∷ l) (lines-joined s)
@@ -55,7 +55,7 @@ onto-each b ls true e h = (rw e, h)
 onto-each b [] false e h = (rw e, tt)
 onto-each b (l ∷ ls) false e h = (rw (e, h .0), h .1)
 
-lines-each : (s : List ℕ) → eachLine (lines s)
+pub lines-each : (s : List ℕ) → eachLine (lines s)
 unfolding eachLine lines
 lines-each [] = tt
 lines-each (b ∷ s) = onto-each b (lines s) (eqb b 10) refl (lines-each s)

@@ -10,8 +10,8 @@ use Rattle.model.specs.declared.answers.Fault.{Fault}
 use Rattle.model.specs.declared.answers.Written.{Written}
 use Rattle.model.specs.declared.answers.Refusal.the-variants.{NoRoom}
 use Rattle.model.specs.Refusals.{good, faultAt, noFault}
-use Rattle.document.specs.Reader.{recordFault, textOf, writeFault, writeAnswer, writeInto}
-use Rattle.text.specs.WriteRoom.{answerIf, roomAnswer, roomInto}
+use Rattle.document.specs.Reader.{recordFault, refusedWriting, textOf, wrote, writeFault, writeAnswer, writeInto}
+use Rattle.text.specs.WriteRoom.{roomAnswer, roomInto}
 
 -- an answer, with the buffer as it leaves it
 pub record WriteLeaves (s : FlowSet) (buffer : List ℕ) (w : Written) (out : List ℕ) : Type 0 where
@@ -24,7 +24,7 @@ module _ (s : FlowSet) (buffer : List ℕ) (f : Fault) (e : f ≡ recordFault s)
   write-refused z =
       record { answer = rw (← e, z, z); bytes = rw (← e, z, z) }
 
-  pub write-accepted : good (f .refusal) ≡ true → (w : Written) (out : List ℕ) → w ≡ roomAnswer s (length buffer) → out ≡ roomInto s buffer
+  pub write-accepted : good (f .refusal) ≡ true → (w : Written) (out : List ℕ) → w ≡ roomAnswer (textOf s) (length buffer) → out ≡ roomInto (textOf s) buffer
       → WriteLeaves s buffer w out
   unfolding writeAnswer writeInto writeFault roomAnswer roomInto
   write-accepted z w out a o =
@@ -34,7 +34,7 @@ module _ (s : FlowSet) (buffer : List ℕ) (f : Fault) (e : f ≡ recordFault s)
       }
     where
       answered : (b : Bool) (n : ℕ)
-          → answerIf b n
+          → cond b (refusedWriting (faultAt NoRoom 0)) (wrote n)
           ≡ record { fault = cond b (faultAt NoRoom 0) noFault; length = cond (good (cond b (faultAt NoRoom 0) noFault .refusal)) n 0 }
       answered true n = refl
       answered false n = refl

@@ -1,4 +1,4 @@
--- What is written of an accepted set, by the buffer's room alone.
+-- What is written of a text, by the buffer's room alone.
 use mathlib.Core.Path.{_≡_, sym, ap, _∙_}
 use mathlib.Core.Bool.{Bool, true, false, cond}
 use mathlib.Core.List.{List, _++_}
@@ -9,53 +9,48 @@ use lib.Dec.{leb, ltb}
 use lib.ListN.{length, drop}
 use lib.Seq.{sets, sets-eq}
 use borrow.Author.Tests.{lt-ltb, le-ltb, leb-true, leb-false}
-use Rattle.model.specs.declared.kinds.FlowSet.{FlowSet}
 use Rattle.model.specs.declared.answers.Fault.{Fault}
 use Rattle.model.specs.declared.answers.Written.{Written}
 use Rattle.model.specs.declared.answers.Refusal.the-variants.{NoRoom}
 use Rattle.model.specs.Refusals.{faultAt, noFault}
-use Rattle.document.specs.Reader.{textOf}
+use Rattle.document.specs.Reader.{refusedWriting, wrote}
 use Rattle.text.specs.DigitsPut.{sets-out}
 use Rattle.text.specs.Put.{lastPlace, Put}
 
--- the answer where the room is short, and where it is not
-abbrev pub answerIf : Bool → ℕ → Written
-answerIf true n = record { fault = faultAt NoRoom 0; length = 0 }
-answerIf false n = record { fault = noFault; length = n }
-
-unfoldable pub roomAnswer : FlowSet → ℕ → Written
-roomAnswer s room = answerIf (ltb room (length (textOf s))) (length (textOf s))
+-- the answer: the text's length, or 10
+unfoldable pub roomAnswer : List ℕ → ℕ → Written
+roomAnswer t room = cond (ltb room (length t)) (refusedWriting (faultAt NoRoom 0)) (wrote (length t))
 
 -- the buffer then
-unfoldable pub roomInto : FlowSet → List ℕ → List ℕ
-roomInto s buffer = cond (ltb (length buffer) (length (textOf s))) buffer (textOf s ++ drop (length (textOf s)) buffer)
+unfoldable pub roomInto : List ℕ → List ℕ → List ℕ
+roomInto t buffer = cond (ltb (length buffer) (length t)) buffer (t ++ drop (length t) buffer)
 
 -- an answer, with the buffer as it leaves it
-pub record RoomLeaves (s : FlowSet) (buffer : List ℕ) (w : Written) (out : List ℕ) : Type 0 where
-  pub answer : w ≡ roomAnswer s (length buffer)
-  pub bytes : out ≡ roomInto s buffer
+pub record RoomLeaves (t : List ℕ) (buffer : List ℕ) (w : Written) (out : List ℕ) : Type 0 where
+  pub answer : w ≡ roomAnswer t (length buffer)
+  pub bytes : out ≡ roomInto t buffer
 
 -- the buffer is m by now, which is as it was; b says whether it has room
-module _ (s : FlowSet) (buffer m : List ℕ) (q : m ≡ buffer) (b : Bool) (k : b ≡ leb (length (textOf s)) (length buffer)) where
-  pub room-short : b ≡ false → (f : Fault) → f ≡ faultAt NoRoom 0 → RoomLeaves s buffer record { fault = f; length = 0 } m
+module _ (t buffer m : List ℕ) (q : m ≡ buffer) (b : Bool) (k : b ≡ leb (length t) (length buffer)) where
+  pub room-short : b ≡ false → (f : Fault) → f ≡ faultAt NoRoom 0 → RoomLeaves t buffer record { fault = f; length = 0 } m
   unfolding roomAnswer roomInto
   room-short h f e =
-      let y = lt-ltb (length buffer) (length (textOf s)) (leb-false _ _ (sym k ∙ h)) in
+      let y = lt-ltb (length buffer) (length t) (leb-false _ _ (sym k ∙ h)) in
       record { answer = rw (e, y); bytes = q ∙ rw y }
 
-  pub room-enough : b ≡ true → length (textOf s) ≤ lastPlace → (out : List ℕ) (r : ℕ) → Put m 0 (textOf s) out r
-      → (f : Fault) → f ≡ noFault → RoomLeaves s buffer record { fault = f; length = r } out
+  pub room-enough : b ≡ true → length buffer ≤ lastPlace → (out : List ℕ) (r : ℕ) → Put m 0 t out r
+      → (f : Fault) → f ≡ noFault → RoomLeaves t buffer record { fault = f; length = r } out
   unfolding roomAnswer roomInto
   room-enough h l out r p f e =
-      let w : length (textOf s) ≤ length buffer = leb-true _ _ (sym k ∙ h) in
-      let y = le-ltb (length buffer) (length (textOf s)) w in
-      let n : r ≡ length (textOf s) = omega (arith, p .place) in
+      let w : length t ≤ length buffer = leb-true _ _ (sym k ∙ h) in
+      let y = le-ltb (length buffer) (length t) w in
+      let n : r ≡ length t = omega (arith, p .place) in
       record {
         answer = rw (e, y, n);
         bytes =
             rw y
-            (p .stored ∙ ap (λ (o : List ℕ). sets o 0 (textOf s)) q ∙ sets-eq (textOf s) buffer 0 (omega arith)
-            ∙ rw (zero-add (length (textOf s))));
+            (p .stored ∙ ap (λ (o : List ℕ). sets o 0 t) q ∙ sets-eq t buffer 0 (omega arith)
+            ∙ rw (zero-add (length t)));
       }
 
 -- a text that is put where the buffer ends: nothing is stored, and the place after it tells its length

@@ -2,8 +2,9 @@
 use mathlib.Core.Path.{_≡_, refl, sym, ap, _∙_}
 use mathlib.Core.Bool.{Bool, true, false, not, _&&_, false≢true}
 use mathlib.Core.List.{List, [], _∷_, _++_, append-assoc}
-use Prim.Native.Nat.{ℕ, _+_}
+use Prim.Native.Nat.{ℕ, zero, suc, _+_, _≤_, zero-le}
 use lib.Dec.{leb, eqb}
+use lib.ListN.{getD}
 use borrow.Author.Tests.{eq-eqb, leb-true, not-true}
 use Rattle.document.specs.Text.{same, lines, ended, fields, firstOf, othersOf, isDigit, allDigits, plain, isNumber, allNumbers, valuesOf, valueOf, wellFormed, numbersOf, decimal, tabbed, decimals, lineOf}
 use Rattle.laws.specs.SumLaws.{and-l, and-r}
@@ -28,7 +29,7 @@ inside-head b f h =
       and-r (not (eqb b 10) && not (eqb b 9)) (inside f) h,
     )
 
-digits-inside : (f : List ℕ) → allDigits f ≡ true → inside f ≡ true
+pub digits-inside : (f : List ℕ) → allDigits f ≡ true → inside f ≡ true
 unfolding inside allDigits
 digits-inside [] h = refl
 digits-inside (b ∷ f) h =
@@ -77,7 +78,13 @@ unfoldable pub small : List ℕ → Bool
 small [] = true
 small (v ∷ vs) = leb v 65535 && small vs
 
-decimals-good : (vs : List ℕ) → small vs ≡ true → (allNumbers (decimals vs) ≡ true) × (valuesOf (decimals vs) ≡ vs)
+pub small-at : (vs : List ℕ) (i : ℕ) → small vs ≡ true → getD vs i 0 ≤ 65535
+unfolding small
+small-at [] i h = zero-le
+small-at (v ∷ vs) zero h = leb-true v 65535 (and-l (leb v 65535) (small vs) h)
+small-at (v ∷ vs) (suc i) h = small-at vs i (and-r (leb v 65535) (small vs) h)
+
+pub decimals-good : (vs : List ℕ) → small vs ≡ true → (allNumbers (decimals vs) ≡ true) × (valuesOf (decimals vs) ≡ vs)
 unfolding small decimals allNumbers valuesOf
 decimals-good [] h = (refl, refl)
 decimals-good (v ∷ vs) h =
@@ -110,7 +117,7 @@ lines-first a s h = split a ∙ rw (line-ends a s h .line-is, line-ends a s h .a
     split [] = lines-line 10 s
     split (b ∷ a) = lines-line b (a ++ (10 ∷ s))
 
-fields-line-of : (w vs : List ℕ) → inside w ≡ true → fields (lineOf w vs) ≡ w ∷ decimals vs
+pub fields-line-of : (w vs : List ℕ) → inside w ≡ true → fields (lineOf w vs) ≡ w ∷ decimals vs
 unfolding lineOf
 fields-line-of w vs h = fields-word w (tabbed (decimals vs)) (decimals vs) h (fields-tabbed vs)
 
@@ -129,7 +136,7 @@ line-written w vs h k =
     }
 
 -- a line that is ended is its fields
-line-fields : (t : List ℕ) → ended t ≡ true → line t ≡ first t ++ tabbed (more t)
+pub line-fields : (t : List ℕ) → ended t ≡ true → line t ≡ first t ++ tabbed (more t)
 unfolding ended line tabbed fields
 line-fields [] h = absurd (false≢true h)
 line-fields (b ∷ t) h = go b t (sep b) (line-fields t) h
@@ -141,14 +148,14 @@ line-fields (b ∷ t) h = go b t (sep b) (line-fields t) h
     go b t (within e f) ih h =
         rw (e, f, fields-parts t) (ap (λ (l : List ℕ). b ∷ l) (ih (sym (ended-within b t e) ∙ h)))
 
-values-back : (fs : List (List ℕ)) → allNumbers fs ≡ true → decimals (valuesOf fs) ≡ fs
+pub values-back : (fs : List (List ℕ)) → allNumbers fs ≡ true → decimals (valuesOf fs) ≡ fs
 unfolding allNumbers valuesOf decimals
 values-back [] h = refl
 values-back (f ∷ fs) h =
     let d = number-decimal f (and-l (isNumber f) (allNumbers fs) h) in
     let r = values-back fs (and-r (isNumber f) (allNumbers fs) h) in rw (d, r)
 
-values-small : (fs : List (List ℕ)) → allNumbers fs ≡ true → small (valuesOf fs) ≡ true
+pub values-small : (fs : List (List ℕ)) → allNumbers fs ≡ true → small (valuesOf fs) ≡ true
 unfolding allNumbers valuesOf small isNumber
 values-small [] h = refl
 values-small (f ∷ fs) h =

@@ -15,7 +15,7 @@ pub fn put_at(out: &mut [u8], at: usize, b: u8)
 }
 
 // How many digits a number below 100,000 has: at most five.
-fn width_to_five(v: u32) -> usize
+pub fn width_to_five(v: u32) -> usize
     requires { ⌜ v < 100000 ⌝ }
     ensures { λ r. ⌜ (r ≡ length (decimal v)) × (r ≤ 5) ⌝ }
 {

@@ -3,6 +3,8 @@ mod digits;
 mod line;
 mod put;
 mod reader;
+mod rows;
+mod table;
 mod writer;
 
 pub use put::put_byte;
@@ -14,4 +16,7 @@ pub use put::put_refused;
 pub use put::put_sends;
 pub use put::put_word;
 pub use reader::read;
+pub use rows::put_row;
+pub use rows::write_table;
+pub use table::read_table;
 pub use writer::write;

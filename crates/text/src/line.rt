@@ -48,7 +48,7 @@ fn number_of(lead: u8, from: usize, end: usize, v: u16) -> NumberRead
 }
 
 // The byte at a place, 0 beyond the end.
-fn byte_at(s: &[u8], at: usize) -> u8
+pub fn byte_at(s: &[u8], at: usize) -> u8
     ensures { λ r. ⌜ r ≡ getD (now (s .entry)) at 0 ⌝ }
 {
     if at < s.len() { s[at] } else { 0 }

@@ -6,13 +6,12 @@ ghost use Prim.Native.Nat.{_+_, _≤_, min};
 ghost use Rattle.text.specs.Put.{Put, fieldsOf, lastPlace};
 ghost use mathlib.Core.List.{[], _∷_};
 ghost use Rattle.document.specs.Text.{decimal, lineOf};
-ghost use Rattle.document.specs.Program.{refusedLine, sendLines, sendNumbers, sendWord};
+ghost use Rattle.document.specs.Program.{refusedWord, sendLines, sendNumbers, sendWord};
 ghost use Rattle.model.specs.Limits.{mostChannels};
 ghost use lib.ListN.{take};
 use crate::digits::put_at;
 use crate::digits::put_digits;
 use model::ChannelMap;
-use model::Fault;
 use model::Send;
 
 // The place n bytes on, or the last place that there is.
@@ -86,12 +85,11 @@ pub fn put_line(out: &mut [u8], at: usize, word: &[u8], numbers: &[u32]) -> usiz
     put_byte(out, end, 10)
 }
 
-// The line of a refusal: its number and the text's line.
-pub fn put_refused(out: &mut [u8], at: usize, fault: Fault) -> usize
-    ensures { λ r. ⌜ Put (now (out .entry)) at (refusedLine fault) (now (out .exit)) r ⌝ }
+// The line of a refusal: its number and the text's line. A fault's line that fits 32 bits is the caller's to show.
+pub fn put_refused(out: &mut [u8], at: usize, refusal: u32, line: u32) -> usize
+    ensures { λ r. ⌜ Put (now (out .entry)) at (lineOf refusedWord (refusal ∷ line ∷ [])) (now (out .exit)) r ⌝ }
 {
-    let refusal = fault.refusal;
-    let numbers = [refusal.code() as u32, fault.line];
+    let numbers = [refusal, line];
     put_line(out, at, b"refused", &numbers)
 }
 

@@ -7,6 +7,7 @@ ghost use lib.ListN.{drop};
 ghost use Rattle.document.specs.Text.{flowWord, lines, setWord};
 ghost use Rattle.text.specs.Row.{rowIn};
 ghost use Rattle.document.specs.Reader.{readFlows, readText};
+ghost use Rattle.model.specs.Limits.{mostFlows};
 use crate::line;
 use crate::line::Row;
 use model::ChannelMap;
@@ -72,7 +73,7 @@ fn first_fault(row: Row) -> Refusal
 }
 
 // The reader's answer of these parts; a refusal comes with the blank set.
-fn reading_of(refusal: Refusal, line: u32, set: FlowSet) -> Reading
+fn reading_of(refusal: Refusal, line: usize, set: FlowSet) -> Reading
     ensures { λ r. ⌜ r ≡ readingOf refusal line set ⌝ }
 {
     let fault = Fault { refusal, line };
@@ -80,11 +81,11 @@ fn reading_of(refusal: Refusal, line: u32, set: FlowSet) -> Reading
 }
 
 // The number of the line of flow number k.
-fn line_number_of(k: usize) -> u32
-    requires { ⌜ k ≤ 4294967290 ⌝ }
+fn line_number_of(k: usize) -> usize
+    requires { ⌜ k ≤ mostFlows ⌝ }
     ensures { λ r. ⌜ r ≡ k + 2 ⌝ }
 {
-    (k + 2) as u32
+    k + 2
 }
 
 // The flow of a line that has been judged.

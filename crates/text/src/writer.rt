@@ -127,8 +127,8 @@ fn has_room(out: &mut [u8], s: FlowSet) -> bool
 fn write_text(s: FlowSet, out: &mut [u8]) -> Written
     requires { ⌜ length (textOf (used s)) ≤ longestText ⌝ }
     ensures { λ r. ⌜
-        (r ≡ roomAnswer (used s) (length (now (out .entry))))
-        × (now (out .exit) ≡ roomInto (used s) (now (out .entry)))
+        (r ≡ roomAnswer (textOf (used s)) (length (now (out .entry))))
+        × (now (out .exit) ≡ roomInto (textOf (used s)) (now (out .entry)))
         ⌝ }
 {
     if has_room(out, s) {

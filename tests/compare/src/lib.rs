@@ -8,7 +8,7 @@ use second::{Flow, Set, State};
 #[derive(Clone, Copy, Debug, PartialEq, Eq)]
 pub struct Fault {
     pub refusal: u32,
-    pub line: u32,
+    pub line: usize,
 }
 
 #[repr(C)]
@@ -73,6 +73,15 @@ pub struct Bounds {
     pub margin: i32,
 }
 
+/// How many slots and how many numbers a superframe has.
+#[repr(C)]
+#[derive(Clone, Copy, Debug, PartialEq, Eq)]
+pub struct Superframe {
+    pub fault: Fault,
+    pub hyper: u32,
+    pub numbers: usize,
+}
+
 /// One transmission.
 #[repr(C)]
 #[derive(Clone, Copy, Debug, PartialEq, Eq)]
@@ -123,11 +132,18 @@ extern "C" {
     fn probe_step(s: RawSet, st: RawState) -> RawStepped;
     fn probe_run(s: RawSet, budget: u32) -> RawRan;
     fn probe_plan(input: *const u8, input_length: usize, out: *mut u8, length: usize) -> Written;
+    fn probe_superframe_size(s: RawSet) -> Superframe;
+    fn probe_superframe(s: RawSet, table: *mut u16, room: usize) -> Superframe;
     // include/rembasuk.h: its answers begin with the refusal and the line, as a fault does.
     fn rembasuk_verdict(text: *const u8, length: usize) -> Verdict;
     fn rembasuk_bounds(text: *const u8, length: usize, flow: u32) -> Bounds;
     fn rembasuk_all_bounds(text: *const u8, length: usize, table: *mut u32, room: usize) -> Written;
     fn rembasuk_slot(text: *const u8, length: usize, state: *mut u8, state_length: usize, lines: *mut u8, lines_length: usize) -> Written;
+    fn rembasuk_superframe_size(text: *const u8, length: usize) -> Superframe;
+    fn rembasuk_superframe(text: *const u8, length: usize, table: *mut u16, room: usize) -> Superframe;
+    fn rembasuk_table_write(table: *const u16, numbers: usize, lines: *mut u8, room: usize) -> Written;
+    fn rembasuk_table_read(lines: *const u8, length: usize, table: *mut u16, room: usize) -> Written;
+    fn rembasuk_channel(map: u32, slot: u32, offset: u32) -> u32;
 }
 
 fn raw_flow(f: &Flow) -> RawFlow {
@@ -182,6 +198,16 @@ impl Record {
     pub fn step_only(&self, st: &State) -> (State, u16) {
         let a = unsafe { probe_step(self.0, RawState { slot: st.slot, sent: st.sent }) };
         (state(&a.next), a.sends)
+    }
+
+    /// How long the superframe's table is.
+    pub fn superframe_size(&self) -> Superframe {
+        unsafe { probe_superframe_size(self.0) }
+    }
+
+    /// The superframe's table, at the start of a lent one.
+    pub fn superframe(&self, table: &mut [u16]) -> Superframe {
+        unsafe { probe_superframe(self.0, table.as_mut_ptr(), table.len()) }
     }
 
     /// A run from the fresh state.
@@ -259,4 +285,29 @@ pub fn text_all_bounds(text: &[u8], table: &mut [u32]) -> Written {
 /// C's step over a text: the next state and the slot's lines.
 pub fn text_slot(text: &[u8], state: &mut [u8], lines: &mut [u8]) -> Written {
     unsafe { rembasuk_slot(text.as_ptr(), text.len(), state.as_mut_ptr(), state.len(), lines.as_mut_ptr(), lines.len()) }
+}
+
+/// What C is told of a text: how long its superframe's table is.
+pub fn text_superframe_size(text: &[u8]) -> Superframe {
+    unsafe { rembasuk_superframe_size(text.as_ptr(), text.len()) }
+}
+
+/// What C is told of a text: its superframe's table, at the start of a lent one.
+pub fn text_superframe(text: &[u8], table: &mut [u16]) -> Superframe {
+    unsafe { rembasuk_superframe(text.as_ptr(), text.len(), table.as_mut_ptr(), table.len()) }
+}
+
+/// A table's lines, at the start of a buffer.
+pub fn table_write(table: &[u16], lines: &mut [u8]) -> Written {
+    unsafe { rembasuk_table_write(table.as_ptr(), table.len(), lines.as_mut_ptr(), lines.len()) }
+}
+
+/// The table of lines, at the start of a lent one; the length counts numbers.
+pub fn table_read(lines: &[u8], table: &mut [u16]) -> Written {
+    unsafe { rembasuk_table_read(lines.as_ptr(), lines.len(), table.as_mut_ptr(), table.len()) }
+}
+
+/// The radio channel of an offset in a slot.
+pub fn channel(map: u32, slot: u32, offset: u32) -> u32 {
+    unsafe { rembasuk_channel(map, slot, offset) }
 }

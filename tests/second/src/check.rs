@@ -22,7 +22,7 @@ pub fn check_with<const SLIP: u8>(set: &Set) -> Refusal {
         }
     }
     if usize::from(set.count) > MOST_FLOWS {
-        return Refusal::at(3, MOST_FLOWS as u32 + 2);
+        return Refusal::at(3, MOST_FLOWS + 2);
     }
     Refusal::NONE
 }

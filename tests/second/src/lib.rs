@@ -3,8 +3,9 @@
 //!
 //! One section of document 01 stands in one module: the flow set in [`record`], refusals in [`check`] and [`read`],
 //! the writer in [`write`], the two delay tests in [`delay`], the slot machine in [`machine`], what C sees in
-//! [`host`], the plan program in [`plan`]. [`inputs`] draws sets, texts, records and states from a seed, and
-//! [`slip`] keeps the wrong rules that the tests must catch.
+//! [`host`], the plan program in [`plan`]. Request 2 of document 02 stands in [`superframe`], and in [`table`] what it
+//! says of lines. [`inputs`] draws sets, texts, records, states and tables from a seed, and [`slip`] keeps the wrong rules
+//! that the tests must catch.
 #![forbid(unsafe_code)]
 #![warn(missing_docs)]
 
@@ -17,6 +18,8 @@ pub mod plan;
 pub mod read;
 pub mod record;
 pub mod slip;
+pub mod superframe;
+pub mod table;
 pub mod write;
 
 pub use check::check;
@@ -24,5 +27,7 @@ pub use delay::{bound, verdict, Bound, Delays, Planner, Verdict};
 pub use machine::{step, Delivered, Machine, Slot, Step, Transmission};
 pub use plan::plan;
 pub use read::{read, Read};
-pub use record::{same, Flow, Refusal, Set, State, LAST_OF_01, REFUSALS};
+pub use record::{same, Flow, Refusal, Set, State, LAST_MADE, REFUSALS};
+pub use superframe::{channel, superframe, superframe_size, superframe_text, Superframe};
+pub use table::{read_table, write_table};
 pub use write::{write, Written};

@@ -26,9 +26,9 @@ pub fn plan(input: &[u8]) -> Vec<u8> {
 }
 
 /// The line of a refusal: `refused`, number, line.
-fn refused(refusal: Refusal) -> Vec<u8> {
+pub(crate) fn refused(refusal: Refusal) -> Vec<u8> {
     let mut text = Vec::new();
-    put_line(&mut text, b"refused", &[i64::from(refusal.number), i64::from(refusal.line)]);
+    put_line(&mut text, b"refused", &[i64::from(refusal.number), refusal.line as i64]);
     text
 }
 

@@ -34,7 +34,7 @@ fn fill(text: &[u8], set: &mut Set) -> Result<(), Refusal> {
     let mut at = first.next;
     while at < text.len() {
         let k = usize::from(set.count);
-        let number = u32::from(set.count) + 2;
+        let number = k + 2;
         let line = line_at(text, at, b"flow").filter(|line| line.count >= 4).ok_or(Refusal::at(1, number))?;
         if k == MOST_FLOWS {
             return Err(Refusal::at(3, number));
@@ -82,7 +82,7 @@ fn line_at(text: &[u8], at: usize, word: &[u8]) -> Option<Line> {
 
 /// A number and the place after it: decimal, no sign, no leading zero, at most 65,535. It stops at the first digit
 /// that passes the limit, so forty digits overflow nothing.
-fn number_at(text: &[u8], from: usize) -> Option<(u16, usize)> {
+pub(crate) fn number_at(text: &[u8], from: usize) -> Option<(u16, usize)> {
     let mut value = 0u32;
     let mut at = from;
     while let Some(byte) = text.get(at).filter(|byte| byte.is_ascii_digit()) {

@@ -12,16 +12,16 @@ pub const LAST_SLOT: u32 = 4_000_000_000;
 /// How many refusal numbers there are, with 0 for none: document 01 has 1 to 13, the documents after it 14 to 19.
 /// Whatever counts refusals has as many places.
 pub const REFUSALS: usize = 20;
-/// The last refusal number of document 01. Numbers above it are made by what later documents ask for.
-pub const LAST_OF_01: usize = 13;
+/// The last refusal number that is made so far: request 2 of document 02 has 14 to 16.
+pub const LAST_MADE: usize = 16;
 
 /// A refusal: its number in document 01's table and the line it names; both 0 where nothing is refused.
 #[derive(Clone, Copy, Debug, Default, PartialEq, Eq, Hash, PartialOrd, Ord)]
 pub struct Refusal {
     /// 1 to 19, or 0 for none.
     pub number: u8,
-    /// The line counted from 1, in a text of any length; 0 for refusals 10 to 13.
-    pub line: u32,
+    /// The line counted from 1, in a text of any length; 0 for refusals 10 to 16.
+    pub line: usize,
 }
 
 impl Refusal {
@@ -29,7 +29,7 @@ impl Refusal {
     pub const NONE: Refusal = Refusal { number: 0, line: 0 };
 
     /// The refusal of this number at this line.
-    pub const fn at(number: u8, line: u32) -> Refusal {
+    pub const fn at(number: u8, line: usize) -> Refusal {
         Refusal { number, line }
     }
 

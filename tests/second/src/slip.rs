@@ -1,7 +1,7 @@
 //! Wrong rules, put in one at a time: the tests of the tests. Document 01's "Easy slips", then what its first section
-//! says "this paper decides", then what could be taken for request 1 of document 02. A slip is a constant of the types
-//! [`PlannerWith`] and [`MachineWith`](crate::machine::MachineWith), or of [`check_with`](crate::check::check_with), so
-//! the right rules ([`NONE`]) pay nothing for them.
+//! says "this paper decides", then what could be taken for requests 1 and 2 of document 02. A slip is a constant of the
+//! types [`PlannerWith`] and [`MachineWith`](crate::machine::MachineWith), of [`check_with`](crate::check::check_with), or
+//! of the functions of [`superframe`](crate::superframe), so the right rules ([`NONE`]) pay nothing for them.
 
 use crate::delay::{Others, PlannerWith};
 use crate::record::{Flow, MOST_FLOWS};
@@ -38,6 +38,12 @@ pub const STILL_CHANNELS: u8 = 12;
 pub const LINK_ONCE: u8 = 14;
 /// Refusal 8 is given for a node that stands anywhere earlier in the route.
 pub const NODE_TWICE: u8 = 15;
+/// The hyper-period is the product of the periods.
+pub const PRODUCT: u8 = 16;
+/// A device takes the channel by the table's slot.
+pub const TABLE_CHANNEL: u8 = 17;
+/// A row of the table has the try for the transmission's number.
+pub const TRY_FOR_NUMBER: u8 = 18;
 
 /// Whether a slip is one of the equation's.
 pub(crate) const fn changes_value(slip: u8) -> bool {

@@ -1,16 +1,10 @@
 -- An input that came whole lies within the buffer that was lent for it.
-use mathlib.Core.Path.{_≡_, sym, subst}
-use Prim.Native.Nat.{ℕ, _≤_}
+use mathlib.Core.Path.{sym}
 use lib.Seq.{length-take-le}
 use borrow.Author.Needs.{needs}
-use Rattle.plan.specs.declared.input.Input.{Input}
-use Rattle.plan.specs.declared.input.Input.the-variants.{Whole}
-use Rattle.plan.specs.Reads.{InputWithin}
+use Rattle.standard_input.specs.Reads.{whole-fits}
 use Rattle.plan.proofs.main.Statement.{statement}
 use Rattle.plan.proofs.main.Tie as tie
-
-whole-fits : {r : Input} {n room : ℕ} → r ≡ Whole n → InputWithin r room → n ≤ room
-whole-fits {r} {n} {room} e h = subst (λ (x : Input). InputWithin x room) e h
 
 array-share-prefix-input : tie.Need-array-share-prefix-input
 array-share-prefix-input c = whole-fits (c .before .read .given .1) (c .before .before .before .before .read-input .ensures)

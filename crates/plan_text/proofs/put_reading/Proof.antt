@@ -1,9 +1,11 @@
 -- The plan is put, or the line of the refusal.
 use Prim.{tt}
-use mathlib.Core.Path.{sym}
+use mathlib.Core.Path.{sym, _∙_}
+use Rattle.text.specs.NamedLine.{refused-line}
 use Rattle.text.specs.Put.{put-same}
 use Rattle.plan_text.specs.PlanInBuffer.{read-good, read-refused}
 use Rattle.laws.specs.Codes.{accepts, refuses}
+use borrow.Author.Needs.{needs}
 use Rattle.plan_text.proofs.put_reading.Statement.{statement}
 use Rattle.plan_text.proofs.put_reading.Tie as tie
 
@@ -12,16 +14,18 @@ same-length c = c .before .before .put-refused .kept .0
 
 returns : tie.Need-returns
 returns c =
-    let d = c .before .before .before .before in
+    let p = c .before .before in
+    let k = p .before .before in
+    let d = k .before .before in
     let r = d .before .before .before .before .args .reading in
     let e = read-refused r (refuses (r .fault) (d .before .refuses .ensures) (d .if1 .taken)) in
-    put-same _ _ _ _ _ _ (sym e) (c .before .before .put-refused .ensures)
+    put-same _ _ _ _ _ _ (refused-line (r .fault) _ (k .code .ensures) ∙ sym e) (p .put-refused .ensures)
 
 put-plan-requires : tie.Need-put-plan-requires
 put-plan-requires c κs =
     let d = c .before .before in
     let o = d .before .before .before .before in
-    o .pre (accepts (o .args .reading .fault) (d .before .refuses .ensures) (d .if1 .left))
+    o .pre .0 (accepts (o .args .reading .fault) (d .before .refuses .ensures) (d .if1 .left))
 
 same-length-2 : tie.Need-same-length-2
 same-length-2 c = c .before .before .put-plan .kept .0
@@ -38,6 +42,9 @@ put-reading-spec =
     tie.close
     (tie.spec
     (λ c κs. tt)
+    (λ c κs. tt)
+    (λ c. search needs)
+    (λ c. search needs)
     (λ c κs. tt)
     same-length
     returns

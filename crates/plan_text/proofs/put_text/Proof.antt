@@ -1,9 +1,11 @@
--- Input that is too long gives its refusal; of any other what was read is put, and a set that was read passes the record check.
+-- Input that is too long gives its refusal; of any other what was read is put, a set that was read passes the record check, and no line
+-- above 66 is named.
 use Prim.{tt}
 use mathlib.Core.Path.{sym, ap, _∙_}
 use Rattle.text.specs.Put.{put-same}
 use Rattle.plan_text.specs.PlanOfReading.{planRead}
 use Rattle.promise.specs.TextHeld.{text-passes}
+use Rattle.text.specs.NamedLine.{read-line-le}
 use Rattle.plan_text.specs.PlanInBuffer.{text-long, text-short}
 use Rattle.plan_text.proofs.put_text.Statement.{statement}
 use Rattle.plan_text.proofs.put_text.Tie as tie
@@ -19,9 +21,10 @@ returns c =
     put-same _ _ _ _ _ _ (sym e) (c .before .before .put-too-long .ensures)
 
 put-reading-requires : tie.Need-put-reading-requires
-put-reading-requires c κs = λ g.
+put-reading-requires c κs =
     let r = c .before .read .ensures in
-    rw r (text-passes (c .before .before .before .before .before .before .args .input .now) (rw (← r) g))
+    let input = c .before .before .before .before .before .before .args .input .now in
+    (λ g. rw r (text-passes input (rw (← r) g)), rw r (read-line-le input))
 
 same-length-2 : tie.Need-same-length-2
 same-length-2 c = c .before .before .put-reading .kept .0

@@ -6,7 +6,9 @@
 
 use compare::Record;
 use second::host::{all_bounds_of_text, bound_of_text, bytes_of_state, step_of_bytes, step_of_text, verdict_of_text};
-use second::inputs::{ring64, sets, Rng};
+use second::inputs::{ring64, sets, superframes, Rng};
+use second::superframe::{superframe_of_text, superframe_size_of_text};
+use second::table::lines_of;
 use second::write::text_of;
 use second::{Machine, Set, Slot, State};
 use std::fs::File;
@@ -160,10 +162,12 @@ fn main() {
     let root = Path::new(env!("CARGO_MANIFEST_DIR")).join("../..");
     let nursery = std::fs::read(root.join("examples/nursery.set")).expect("the nursery is there");
     let inputs = Inputs::new(nursery);
+    std::fs::write(root.join("target/f3.set"), &inputs.f3.text).expect("F3 is written");
     let mut rows = Vec::new();
     verdicts(&mut rows, &inputs);
     bounds(&mut rows, &inputs);
     slots(&mut rows, &inputs);
+    loading(&mut rows, &inputs);
     programs(&mut rows, &root);
     records(&mut rows, &inputs);
     let words = std::env::args().nth(2).unwrap_or_default();
@@ -206,6 +210,8 @@ struct Inputs {
     spread: Input,
     busy: Input,
     longest: Input,
+    many: Input,
+    f3: Input,
 }
 
 impl Inputs {
@@ -223,6 +229,8 @@ impl Inputs {
             spread: Input::new("64 flows of one link, 6 % of the slots busy", sets::spread(1024, 16)),
             busy: Input::new("64 flows, 16 sends a slot", sets::busy()),
             longest: Input::new("8,138 bytes, the longest text", sets::longest()),
+            many: Input::new("64 flows, 65,520 slots, 216,387 rows", superframes::many()),
+            f3: Input::new("F3, 16 flows, 65,535 slots, 983,026 rows", superframes::f3()),
         }
     }
 }
@@ -280,6 +288,51 @@ fn slots<'a>(rows: &mut Vec<Row<'a>>, inputs: &'a Inputs) {
     rows.push(Row::new(name, walk_proved(input), second).per(SLOTS));
 }
 
+/// The superframe's size and its table; and the lines of the longest one, written and read.
+fn loading<'a>(rows: &mut Vec<Row<'a>>, inputs: &'a Inputs) {
+    for input in [&inputs.many, &inputs.f3] {
+        let text = &input.text;
+        let numbers = superframe_size_of_text(text).numbers;
+        let (mut ours, mut theirs) = (vec![0; numbers], vec![0; numbers]);
+        rows.push(Row::new(
+            format!("the superframe's size: {}", input.name),
+            move || compare::text_superframe_size(black_box(text)).numbers as u64,
+            move || superframe_size_of_text(black_box(text)).numbers as u64,
+        ));
+        rows.push(Row::new(
+            format!("the superframe: {}", input.name),
+            move || compare::text_superframe(black_box(text), &mut ours).numbers as u64 + mixed(&ours),
+            move || superframe_of_text(black_box(text), &mut theirs).numbers as u64 + mixed(&theirs),
+        ));
+    }
+    lines(rows, &inputs.f3);
+}
+
+/// A few numbers of a table: both sides must have them in common.
+fn mixed(table: &[u16]) -> u64 {
+    table.iter().step_by(9_973).map(|&number| u64::from(number)).sum()
+}
+
+/// A table's lines, written and read.
+fn lines<'a>(rows: &mut Vec<Row<'a>>, input: &'a Input) {
+    let mut table = vec![0; superframe_size_of_text(&input.text).numbers];
+    superframe_of_text(&input.text, &mut table);
+    let text = lines_of(&table);
+    let (mut ours, mut theirs) = (vec![0; text.len()], vec![0; text.len()]);
+    let (mut read, mut read_too) = (vec![0; table.len()], vec![0; table.len()]);
+    let (again, text_again) = (table.clone(), text.clone());
+    rows.push(Row::new(
+        format!("writing a table's lines: {}", input.name),
+        move || compare::table_write(black_box(&table), &mut ours).length as u64 + u64::from(ours[ours.len() / 2]),
+        move || second::write_table(black_box(&again), &mut theirs).bytes as u64 + u64::from(theirs[theirs.len() / 2]),
+    ));
+    rows.push(Row::new(
+        format!("reading a table's lines: {}", input.name),
+        move || compare::table_read(black_box(&text), &mut read).length as u64 + mixed(&read),
+        move || second::read_table(black_box(&text_again), &mut read_too).1 as u64 + mixed(&read_too),
+    ));
+}
+
 /// Slots from a state where every flow has started: how many bytes of lines they have.
 fn walk<'a>(input: &'a Input, mut slot: impl FnMut(&mut [u8], &mut [u8]) -> usize + 'a) -> impl FnMut() -> u64 + 'a {
     let first = bytes_of_state(&input.state());
@@ -295,7 +348,6 @@ fn walk_proved(input: &Input) -> impl FnMut() -> u64 + '_ {
 
 /// Whole processes, a file in and nothing out, both linked with shared libraries.
 fn programs<'a>(rows: &mut Vec<Row<'a>>, root: &Path) {
-    let [proved, second] = ["target/bin/plan", "tests/second/target/release/plan"].map(|path| root.join(path));
     let start = |program: PathBuf, input: PathBuf| {
         move || {
             let input = File::open(&input).expect("the input is there");
@@ -303,10 +355,16 @@ fn programs<'a>(rows: &mut Vec<Row<'a>>, root: &Path) {
             u64::from(status.success())
         }
     };
-    for (name, input) in [("the nursery", "examples/nursery.set"), ("no input, which is refused: its start", "/dev/null")] {
+    let runs = [
+        ("plan", "the program, a whole process: the nursery", "examples/nursery.set"),
+        ("plan", "the program, a whole process: no input, which is refused: its start", "/dev/null"),
+        ("superframe", "the program superframe, a whole process: the nursery with every start 0", "examples/nursery_starts_0.set"),
+        ("superframe", "the program superframe, a whole process: F3, some 12 MB of lines", "target/f3.set"),
+    ];
+    for (program, name, input) in runs {
+        let [proved, second] = ["target/bin", "tests/second/target/release"].map(|folder| root.join(folder).join(program));
         let input = root.join(input);
-        let name = format!("the program, a whole process: {name}");
-        let row = Row::new(name, start(proved.clone(), input.clone()), start(second.clone(), input));
+        let row = Row::new(name, start(proved, input.clone()), start(second, input));
         rows.push(Row { clock: started, ..row });
     }
 }

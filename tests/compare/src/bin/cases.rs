@@ -1,10 +1,11 @@
 //! Texts that the proved reader reads and the proved writer writes again where they are accepted; records that it writes, and buffers on
-//! either side of a text's length. What must be printed stands in tests/cases/stdout, from document 01 and not from this program.
-//! On each line of standard input: a label, a tab, and the text in one line.
+//! either side of a text's length; sets of which it says how long the superframe is; and a table's lines, read and written again. What must
+//! be printed stands in tests/cases/stdout, from documents 01 and 02 and not from this program.
+//! Usage: cases FOLDER; of its files `texts`, `sets` and `lines` each line is a label, a tab, and the text in one line.
 
 use compare::{read, Fault, Record, Written};
 use second::Set;
-use std::io::Read;
+use std::path::Path;
 
 /// The byte that one of the table stands for: `|` a tab, `$` LF, `%` CR, `@` NUL, `<` and `>` 128 and 255, `{`, `}` and `~` the three of a
 /// byte order mark; every other byte is itself.
@@ -33,6 +34,22 @@ fn text_case(label: &str, text: &[u8]) {
     let mut out = vec![0; 65536];
     let n = Record::new(&set).write(&mut out).length;
     print(label, fault, if out[..n] == *text { n } else { 0 });
+}
+
+/// Of a set's superframe number and line, hyper-period, and how many numbers; a table of one number less is refused with 10.
+fn set_case(label: &str, text: &[u8]) {
+    let a = compare::text_superframe_size(text);
+    let mut table = vec![0; a.numbers.saturating_sub(1)];
+    let short = compare::text_superframe(text, &mut table).fault.refusal;
+    println!("{label}\t{}\t{}\t{}\t{}\t{short}", a.fault.refusal, a.fault.line, a.hyper, a.numbers);
+}
+
+/// Of a table's lines number and line, and how many numbers; 0 where they are refused, or are not these lines again.
+fn lines_case(label: &str, text: &[u8]) {
+    let (mut table, mut out) = (vec![0; text.len()], vec![0; text.len()]);
+    let Written { fault, length } = compare::table_read(text, &mut table);
+    let n = compare::table_write(&table[..length], &mut out).length;
+    print(label, fault, if out[..n] == *text { length } else { 0 });
 }
 
 fn written(label: &str, set: &Set, size: usize) {
@@ -65,14 +82,19 @@ fn behind_case(last: u16, behind: u16, nodes: u16) {
     written(&format!("behind\t{last}\t{behind}\t{nodes}"), &set, 4096);
 }
 
-fn main() {
-    let mut table = Vec::new();
-    std::io::stdin().read_to_end(&mut table).expect("the table is read");
+/// Each line of a table of cases.
+fn each(path: &Path, case: fn(&str, &[u8])) {
+    let table = std::fs::read(path).expect("the table is read");
     for line in table.split(|b| *b == b'\n').filter(|line| !line.is_empty()) {
         let tab = line.iter().position(|b| *b == b'\t').expect("a label and a tab");
         let text: Vec<u8> = line[tab + 1..].iter().map(|b| meant(*b)).collect();
-        text_case(&String::from_utf8_lossy(&line[..tab]), &text);
+        case(&String::from_utf8_lossy(&line[..tab]), &text);
     }
+}
+
+fn main() {
+    let folder = std::env::args().nth(1).expect("a folder");
+    each(&Path::new(&folder).join("texts"), text_case);
     for size in [0, 25, 26, 27] {
         written(&format!("buffer\t{size}"), &small(), size);
     }
@@ -85,4 +107,6 @@ fn main() {
             behind_case(last, behind, nodes);
         }
     }
+    each(&Path::new(&folder).join("sets"), set_case);
+    each(&Path::new(&folder).join("lines"), lines_case);
 }

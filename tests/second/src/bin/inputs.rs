@@ -2,8 +2,8 @@
 //! often each refusal was made of the inputs drawn: `inputs [seed] [draws]`. Refusal 0 is "accepted".
 
 use second::host::{bound_of_text, step_of_text};
-use second::inputs::{records, sets, texts, Rng};
-use second::{check, read, step, write, Refusal, Set, REFUSALS};
+use second::inputs::{records, sets, superframes, tables, texts, Rng};
+use second::{check, read, read_table, step, superframe, write, Refusal, Set, REFUSALS};
 
 /// How often each refusal number was made.
 type Tally = [u64; REFUSALS];
@@ -17,13 +17,15 @@ fn main() {
     let mut rng = Rng::new(seed);
     let returning = (0..draws).filter(|_| sets::returns(&sets::any(&mut rng))).count();
     println!("sets\t{draws}\twith a returning node\t{returning}");
-    let kinds: [(&str, Kind); 6] = [
+    let kinds: [(&str, Kind); 8] = [
         ("text", |rng| read(&texts::any(rng)).refusal),
         ("record", |rng| check(&records::record(rng))),
         ("state", state),
         ("bound", bound),
         ("write", written),
         ("c-step", c_step),
+        ("superframe", loaded),
+        ("table", lines),
     ];
     for (name, kind) in kinds {
         let (mut rng, mut tally) = (Rng::new(seed), Tally::default());
@@ -64,6 +66,20 @@ fn c_step(rng: &mut Rng) -> Refusal {
     let mut state = records::state_bytes(rng, &set);
     let mut buffer = vec![0; rng.pick(&[0, 18, 40, 600])];
     step_of_text(&text, &mut state, &mut buffer).refusal
+}
+
+/// The superframe of a set into a table that may be short.
+fn loaded(rng: &mut Rng) -> Refusal {
+    let set = superframes::any(rng);
+    let mut table = vec![0; rng.pick(&[0, 40, 400, 70_000])];
+    superframe(&set, &mut table).refusal
+}
+
+/// Lines read into a table that may be short.
+fn lines(rng: &mut Rng) -> Refusal {
+    let text = tables::lines(rng);
+    let mut table = vec![0; rng.pick(&[0, 20, 48])];
+    read_table(&text, &mut table).0
 }
 
 fn print_tally(name: &str, tally: &Tally) {

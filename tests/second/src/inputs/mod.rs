@@ -1,10 +1,13 @@
 //! Inputs for comparing planners, drawn from a seed: [`sets`] small and large and on either side of a line,
-//! [`texts`] damaged from good ones, [`records`] with garbage where nothing counts, and states good and bad; and sets
-//! with a name, [`named`], whose answers were found by hand.
+//! [`texts`] damaged from good ones, [`records`] with garbage where nothing counts, and states good and bad;
+//! [`superframes`], sets to be loaded, and [`tables`] with their lines good and damaged; and sets with a name, [`named`],
+//! whose answers were found by hand.
 
 pub mod named;
 pub mod records;
 pub mod sets;
+pub mod superframes;
+pub mod tables;
 pub mod texts;
 
 pub use sets::ring64;

@@ -190,7 +190,7 @@ fn loops_alike() -> Named {
 }
 
 /// Texts that are refused: what for, the text, number and line.
-pub fn refused() -> Vec<(&'static str, String, u8, u32)> {
+pub fn refused() -> Vec<(&'static str, String, u8, usize)> {
     let flow = |fields: &str| format!("set\t1\nflow\t{fields}\n");
     vec![
         ("a 65th flow", format!("set\t1\n{}", "flow\t9\t9\t0\t1\t1\t2\n".repeat(65)), 3, 66),

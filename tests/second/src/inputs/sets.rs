@@ -267,7 +267,7 @@ fn round_periods(rng: &mut Rng, set: &mut Set) {
 }
 
 /// Moves deadlines to the bounds, again and again because each deadline moves other bounds.
-fn pull_in(rng: &mut Rng, set: &mut Set) {
+pub(super) fn pull_in(rng: &mut Rng, set: &mut Set) {
     for _ in 0..rng.within(0, 5) {
         let Ok(planner) = Planner::new(set) else { return };
         let delays = planner.delays();

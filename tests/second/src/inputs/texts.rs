@@ -51,7 +51,7 @@ pub fn damaged(rng: &mut Rng, faults: [u8; 2]) -> Damaged {
         let later: [&[u8]; 6] = [b"", b"\n", b"set\t0\n", b"flow\t0", b"x", b"flow\t9\t9\t0\t1\t5\t5\n"];
         text.extend_from_slice(rng.pick(&later));
     }
-    Damaged { text, refusal: Refusal::at(faults[0].min(faults[1]), before as u32 + 1) }
+    Damaged { text, refusal: Refusal::at(faults[0].min(faults[1]), before + 1) }
 }
 
 /// A set of 64 flows, short ones, so that a 65th line can follow.
@@ -185,7 +185,7 @@ fn misform(rng: &mut Rng, line: Vec<u8>, only: bool) -> Vec<u8> {
 const WORDS: [&str; 9] = ["", "f", "se", "flows", "FLOW", "Set", "flow ", "sets", "s\tet"];
 
 /// What is no number.
-const BAD_NUMBERS: [&str; 15] = [
+pub(super) const BAD_NUMBERS: [&str; 15] = [
     "",
     "00",
     "07",

@@ -8,14 +8,21 @@ use second::inputs::{named, records, sets, Rng};
 use second::machine::MachineWith;
 use second::plan::print;
 use second::slip;
-use second::{read, Flow, Refusal, Set, Slot, State};
+use second::superframe::{hyper_with, sends_by_table, table_of};
+use second::{read, Flow, Refusal, Set, Slot, State, Transmission};
 
-/// The rules to try: those of a record, a planner's and a machine's, any of them with a slip in it.
+/// The rules to try: those of a record, a planner's, a machine's and a superframe's, any of them with a slip in it.
 #[derive(Clone, Copy)]
 pub struct Rules {
     pub check: fn(&Set) -> Refusal,
     pub delays: fn(&Set) -> Delays,
     pub machine: fn(&Set) -> Box<dyn Steps>,
+    /// The hyper-period, none above 65,536.
+    pub hyper: fn(&Set) -> Option<u32>,
+    /// The table of the first slots.
+    pub table: fn(&Set, u32) -> Vec<u16>,
+    /// What a table of so many slots has for a slot.
+    pub by_table: fn(&Set, &[u16], u32, u32) -> Vec<Transmission>,
 }
 
 /// A machine with whatever rules.
@@ -35,8 +42,14 @@ impl<const SLIP: u8> Steps for MachineWith<SLIP> {
 }
 
 /// The documents' rules.
-pub const RIGHT: Rules =
-    Rules { check: check_with::<{ slip::NONE }>, delays: delays::<{ slip::NONE }>, machine: machine::<{ slip::NONE }> };
+pub const RIGHT: Rules = Rules {
+    check: check_with::<{ slip::NONE }>,
+    delays: delays::<{ slip::NONE }>,
+    machine: machine::<{ slip::NONE }>,
+    hyper: hyper_with::<{ slip::NONE }>,
+    table: table_of::<{ slip::NONE }>,
+    by_table: sends_by_table::<{ slip::NONE }>,
+};
 
 /// A slip in the rules of a record.
 pub fn record_slip<const SLIP: u8>() -> Rules {
@@ -51,6 +64,11 @@ pub fn planner_slip<const SLIP: u8>() -> Rules {
 /// A slip in the machine.
 pub fn machine_slip<const SLIP: u8>() -> Rules {
     Rules { machine: machine::<SLIP>, ..RIGHT }
+}
+
+/// A slip in the superframe.
+pub fn superframe_slip<const SLIP: u8>() -> Rules {
+    Rules { hyper: hyper_with::<SLIP>, table: table_of::<SLIP>, by_table: sends_by_table::<SLIP>, ..RIGHT }
 }
 
 fn delays<const SLIP: u8>(set: &Set) -> Delays {

@@ -1,5 +1,6 @@
-//! Document 01, rule 8 and S as request 1 of document 02 has them, in the slowest and most literal words: signed numbers,
-//! nested loops, all lists tried. For tiny sets and single slots only; it shares nothing with the library but the records.
+//! Document 01, rule 8 and S as request 1 of document 02 has them, and request 2, in the slowest and most literal words:
+//! signed numbers, nested loops, all lists tried. For tiny sets, single slots and short tables only; it shares nothing with
+//! the library but the records.
 
 use second::{Delivered, Flow, Set, Slot, State, Transmission};
 
@@ -22,7 +23,7 @@ pub fn faults(t: i64, d: i64, tries: i64, route: &[i64]) -> Vec<u8> {
 
 /// The refusal of a record, number and line: the map's line, then each flow's, then the 65th flow's. A route has as many
 /// nodes as the record says; the array holds 17 of them, and with more than these it is 7 whatever they are.
-pub fn refusal(set: &Set) -> (u8, u32) {
+pub fn refusal(set: &Set) -> (u8, usize) {
     if set.map == 0 {
         return (2, 1);
     }
@@ -31,7 +32,7 @@ pub fn refusal(set: &Set) -> (u8, u32) {
             (0..flow.nodes.into()).map(|i| flow.route.get(i).map_or(0, |&node| node.into())).collect();
         let found = faults(flow.period.into(), flow.deadline.into(), flow.tries.into(), &route);
         if let Some(&lowest) = found.iter().min() {
-            return (lowest, k as u32 + 2);
+            return (lowest, k + 2);
         }
     }
     if set.count > 64 {
@@ -180,4 +181,52 @@ pub fn slot(set: &Set, state: &State) -> (State, Slot) {
         }
     }
     (next, slot)
+}
+
+/// The hyper-period: the first number from 1 on that every period divides; none where that is above 65,536.
+pub fn hyper(set: &Set) -> Option<i64> {
+    (1..=65_536).find(|x| set.used().iter().all(|flow| x % i64::from(flow.period) == 0))
+}
+
+/// The rows of the first slots of a good set whose starts are all 0: a transmission's number is how many the flow has had
+/// since its latest multiple of T.
+pub fn rows(set: &Set, slots: i64) -> Vec<[i64; 4]> {
+    let (mut rows, mut state): (Vec<[i64; 4]>, State) = (Vec::new(), State::FRESH);
+    for t in 0..slots {
+        let (next, slot) = slot(set, &state);
+        for sent in &slot.sends {
+            let flow = i64::from(sent.flow);
+            let release = t - t % i64::from(set.flows[usize::from(sent.flow)].period);
+            let had = rows.iter().filter(|row| row[1] == flow && row[0] >= release).count();
+            rows.push([t, flow, had as i64, sent.offset.into()]);
+        }
+        state = next;
+    }
+    rows
+}
+
+/// The rows of a table's lines, or the first line that lacks its form or is not above the one before it by slot, then
+/// offset.
+pub fn rows_of_lines(text: &[u8]) -> Result<Vec<[i64; 4]>, usize> {
+    let mut rows: Vec<[i64; 4]> = Vec::new();
+    for (i, line) in text.split_inclusive(|&byte| byte == b'\n').enumerate() {
+        let row = row_of_line(line).ok_or(i + 1)?;
+        if rows.last().is_some_and(|last| row[0] < last[0] || row[0] == last[0] && row[3] <= last[3]) {
+            return Err(i + 1);
+        }
+        rows.push(row);
+    }
+    Ok(rows)
+}
+
+/// A line of four numbers: each is what its value is written as, and at most 65,535.
+fn row_of_line(line: &[u8]) -> Option<[i64; 4]> {
+    let body = std::str::from_utf8(line).ok()?.strip_suffix('\n')?;
+    let numbers: Option<Vec<i64>> = body.split('\t').map(number).collect();
+    numbers?.try_into().ok()
+}
+
+fn number(field: &str) -> Option<i64> {
+    let value: i64 = field.parse().ok()?;
+    (value.to_string() == field && (0..=65_535).contains(&value)).then_some(value)
 }

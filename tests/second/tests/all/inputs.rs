@@ -2,8 +2,8 @@
 
 use crate::checks::set_of;
 use crate::definition;
-use second::inputs::{records, sets, texts, Rng};
-use second::{check, read, step, Flow, Planner, Refusal, Set, REFUSALS};
+use second::inputs::{records, sets, superframes, texts, Rng};
+use second::{check, read, step, superframe_size, Flow, Planner, Refusal, Set, REFUSALS};
 
 #[test]
 fn the_same_seed_draws_the_same_inputs() {
@@ -67,10 +67,31 @@ fn every_refusal_occurs() {
     assert!([0, 11, 12].iter().all(|&number| seen[2][number] > 50), "{seen:?}");
 }
 
+/// Nearly half are good, and 14, 15 and 16 occur; long ones lie on either side of the limit.
+#[test]
+fn superframes_are_good_and_refused_for_every_reason() {
+    let mut rng = Rng::new(100);
+    let (mut seen, mut long, mut tightened, mut returning) = ([0; REFUSALS], [0; REFUSALS], 0, 0);
+    for _ in 0..4_000 {
+        let set = superframes::any(&mut rng);
+        assert_eq!(check(&set), Refusal::NONE);
+        seen[usize::from(superframe_size(&set).refusal.number)] += 1;
+        returning += usize::from(sets::returns(&set));
+        let short = superframes::short(&mut rng);
+        let verdict = second::verdict(&short);
+        tightened += usize::from(verdict.tightened && !verdict.basic);
+        assert!(short.used().iter().all(|flow| flow.start == 0) && superframe_size(&short).refusal.number != 16);
+        long[usize::from(superframe_size(&superframes::long(&mut rng)).refusal.number)] += 1;
+    }
+    assert!(seen[0] > 1_500 && seen[14] > 1_000 && seen[15] > 200 && seen[16] > 50, "{seen:?}");
+    assert!(long[0] > 2_000 && long[16] > 500, "{long:?}");
+    assert!(tightened > 150 && returning > 1_000, "{tightened} {returning}");
+}
+
 /// The numbers of the line that a damaged text is refused for.
 fn numbers_of(damaged: texts::Damaged) -> Vec<i64> {
     let text = String::from_utf8(damaged.text).unwrap();
-    let line = text.lines().nth(damaged.refusal.line as usize - 1).unwrap();
+    let line = text.lines().nth(damaged.refusal.line - 1).unwrap();
     line.split('\t').skip(1).map(|field| field.parse().unwrap()).collect()
 }
 

@@ -1,8 +1,9 @@
-//! The second planner's own tests. `definition` is document 01 in its slowest words, `checks` are the checks that both
-//! the right rules must pass and the slips must fail, and the other modules are the tests by subject.
+//! The second planner's own tests. `definition` is document 01 in its slowest words, `checks` and `loading` are the checks
+//! that the right rules must pass and the slips must fail, and the other modules are the tests by subject.
 
 mod checks;
 mod definition;
+mod loading;
 
 mod delays;
 mod demand3;
@@ -14,3 +15,5 @@ mod reader;
 mod records;
 mod run_only;
 mod slips;
+mod superframe;
+mod tables;

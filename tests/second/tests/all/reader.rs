@@ -6,7 +6,7 @@ use second::{read, same, write, Refusal, Set};
 
 const GOOD: &str = "set\t1\nflow\t10\t4\t0\t2\t1\t2\t3\n";
 
-fn refused(text: &[u8]) -> (u8, u32) {
+fn refused(text: &[u8]) -> (u8, usize) {
     let read = read(text);
     assert!(!read.refusal.refuses() || read.set == Set::BLANK);
     (read.refusal.number, read.refusal.line)

@@ -1,6 +1,7 @@
 //! The tests of the tests: each wrong rule is put in, and the very checks that the right rules pass must fail.
 
-use crate::checks::{self, machine_slip, planner_slip, record_slip, set_of, Rules, L2_TEXT, RIGHT};
+use crate::checks::{self, machine_slip, planner_slip, record_slip, set_of, superframe_slip, Rules, L2_TEXT, RIGHT};
+use crate::loading;
 use second::slip;
 
 /// Which checks catch a slip: the paper's sets, the refusals by the definition, the greatest list by search, the bounds
@@ -26,10 +27,49 @@ fn caught(rules: Rules) -> Caught {
     }
 }
 
+/// Which checks of request 2 catch a slip: its sets, the hyper-periods and the tables by the definition, and the table
+/// repeated beside the machine.
+#[derive(Debug)]
+struct CaughtLoading {
+    paper: bool,
+    hypers: bool,
+    tables: bool,
+    repeats: bool,
+}
+
+fn caught_loading(rules: Rules) -> CaughtLoading {
+    CaughtLoading {
+        paper: loading::paper(rules).is_err(),
+        hypers: loading::hypers(rules, 27, 500).is_err(),
+        tables: loading::tables(rules, 28, 200).is_err(),
+        repeats: loading::repeats(rules, 29, 500).is_err(),
+    }
+}
+
 #[test]
 fn the_right_rules_pass_every_check() {
     let none = caught(RIGHT);
     assert!(!(none.paper || none.refusals || none.greatest || none.bounds || none.slots || none.demand3));
+    let none = caught_loading(RIGHT);
+    assert!(!(none.paper || none.hypers || none.tables || none.repeats));
+}
+
+#[test]
+fn a_product_for_the_least_common_multiple_is_caught() {
+    let by = caught_loading(superframe_slip::<{ slip::PRODUCT }>());
+    assert!(by.paper && by.hypers);
+}
+
+#[test]
+fn channels_by_the_tables_slot_are_caught() {
+    let by = caught_loading(superframe_slip::<{ slip::TABLE_CHANNEL }>());
+    assert!(by.paper && by.repeats);
+}
+
+#[test]
+fn tries_for_numbers_are_caught() {
+    let by = caught_loading(superframe_slip::<{ slip::TRY_FOR_NUMBER }>());
+    assert!(by.paper && by.tables && by.repeats);
 }
 
 #[test]

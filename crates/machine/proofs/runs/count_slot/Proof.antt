@@ -17,7 +17,7 @@ mark-le placed chosen marked n c k = rw (c .marks k) (bit-one (memb k placed))
 choose-requires : tie.Need-choose-requires
 choose-requires c κs =
     let p = c .before .before .before .pre in
-    ((p .0 .1, p .0 .3, p .0 .4, refl, refl), (getD-zeros mostFlows, (p .1 .0, p .1 .1 .1)))
+    ((p .0 .1, p .0 .3, p .0 .4, p .0 .6, refl), (getD-zeros mostFlows, (p .1 .0, p .1 .1 .1)))
 
 count-and-advance-requires : tie.Need-count-and-advance-requires
 count-and-advance-requires c κs =

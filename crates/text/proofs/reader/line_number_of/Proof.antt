@@ -8,4 +8,4 @@ returns : tie.Need-returns
 returns c = refl
 
 pub line-number-of-spec : {M : Type 1} → statement M
-line-number-of-spec = tie.close (tie.spec (λ c. search needs) (λ c. search needs) returns)
+line-number-of-spec = tie.close (tie.spec (λ c. search needs) returns)

@@ -98,7 +98,7 @@ pub fn named(tally: &mut Tally) {
     }
 }
 
-fn count(tally: &mut Tally, refusal: Refusal) {
+pub fn count(tally: &mut Tally, refusal: Refusal) {
     tally.called[usize::from(refusal.number)] += 1;
 }
 

@@ -1,14 +1,15 @@
 //! Compares the proved planner with the second one on every function, for a bounded time, with seeds that it prints.
-//! A difference prints the input as text and fails. Every refusal number of document 01 must have been seen, also through the functions
+//! A difference prints the input as text and fails. Every refusal number that is made so far must have been seen, also through the functions
 //! that a user holds, and half of the good sets must have had a node that returns later in a route.
 
 mod calls;
+mod loading;
 mod named;
 
 use compare::{Bounds, Fault, Record, Verdict};
 use second::inputs::{records, sets, texts, Rng};
 use second::write::text_of;
-use second::{Machine, Planner, Refusal, Set, Slot, State, LAST_OF_01, REFUSALS};
+use second::{Machine, Planner, Refusal, Set, Slot, State, LAST_MADE, REFUSALS};
 use std::time::{Duration, Instant};
 
 /// How many seeds are compared side by side, for the machine's two processors.
@@ -20,6 +21,10 @@ struct Tally {
     seeds: u64,
     refusals: [u64; REFUSALS],
     called: [u64; REFUSALS],
+    /// How often lines of a table were refused with each.
+    lines: [u64; REFUSALS],
+    /// Tables that were repeated beside the slots.
+    repeated: u64,
     inputs: u64,
     slots: u64,
     packets: u64,
@@ -32,7 +37,8 @@ struct Tally {
 impl Tally {
     fn new(seed: u64) -> Tally {
         let seen = [0; REFUSALS];
-        Tally { seed, seeds: 0, refusals: seen, called: seen, inputs: 0, slots: 0, packets: 0, admitted: 0, sets: 0, returning: 0 }
+        let (seeds, inputs, slots, packets, admitted, repeated, sets, returning) = Default::default();
+        Tally { seed, seeds, refusals: seen, called: seen, lines: seen, repeated, inputs, slots, packets, admitted, sets, returning }
     }
 
     /// What another worker compared counts too.
@@ -40,8 +46,10 @@ impl Tally {
         for n in 0..REFUSALS {
             self.refusals[n] += other.refusals[n];
             self.called[n] += other.called[n];
+            self.lines[n] += other.lines[n];
         }
         self.seeds += other.seeds;
+        self.repeated += other.repeated;
         self.inputs += other.inputs;
         self.slots += other.slots;
         self.packets += other.packets;
@@ -91,6 +99,7 @@ fn main() {
     named::refused(&mut tally);
     named::behind_the_end(&mut tally);
     calls::named(&mut tally);
+    loading::named(&mut tally);
     let workers: Vec<_> = (0..WORKERS).map(|w| std::thread::spawn(move || seeds(first + w, end))).collect();
     for worker in workers {
         tally.add(&worker.join().expect("a worker ends"));
@@ -99,8 +108,9 @@ fn main() {
         tally.packets, tally.admitted);
     println!("{} good sets, {} of them with a returning node", tally.sets, tally.returning);
     println!("refusals seen: {}", counts(&tally.refusals));
-    println!("refusals seen of rembasuk_verdict, rembasuk_bounds, rembasuk_slot and plan: {}", counts(&tally.called));
-    if [tally.refusals, tally.called].iter().any(|seen| seen[..=LAST_OF_01].contains(&0)) {
+    println!("refusals seen of what C calls and of plan: {}", counts(&tally.called));
+    println!("{} tables repeated beside the slots; refusals seen of a table's lines: {}", tally.repeated, counts(&tally.lines));
+    if [tally.refusals, tally.called].iter().any(|seen| seen[..=LAST_MADE].contains(&0)) || !loading::every_line(&tally.lines) {
         println!("a refusal number was never seen");
         std::process::exit(1);
     }
@@ -123,15 +133,16 @@ fn seeds(first: u64, end: Instant) -> Tally {
         }
         long_run(&mut tally, &mut rng);
         calls::walk(&mut tally, &mut rng);
+        loading::over_seed(&mut tally, &mut rng);
         tally.seed += WORKERS;
         tally.seeds += 1;
     }
     tally
 }
 
-/// How often each refusal was made: those of document 01 all, later ones where there are any.
+/// How often each refusal was made, up to the last number there is, where it was.
 fn counts(refusals: &[u64; REFUSALS]) -> String {
-    let seen = refusals.iter().enumerate().filter(|(n, times)| *n <= LAST_OF_01 || **times > 0);
+    let seen = refusals.iter().enumerate().filter(|(_, times)| **times > 0);
     seen.map(|(n, times)| format!("{n}: {times}")).collect::<Vec<_>>().join(", ")
 }
 

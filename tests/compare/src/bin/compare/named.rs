@@ -154,7 +154,7 @@ pub fn refused(tally: &mut Tally) {
     hold_fault(tally, "67 bytes of state", compare::text_slot(text, &mut [0; 67], &mut [0; 100]).fault, 12, 0);
 }
 
-fn hold_fault(tally: &mut Tally, name: &str, fault: Fault, refusal: u32, line: u32) {
+fn hold_fault(tally: &mut Tally, name: &str, fault: Fault, refusal: u32, line: usize) {
     tally.hold(name, &Set::BLANK, fault == Fault { refusal, line }, || format!("{fault:?}"));
 }
 

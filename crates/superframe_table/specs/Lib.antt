@@ -1,0 +1,9 @@
+pub mod LoadedHyper
+pub mod TableFlows
+pub mod LoadedLines
+pub mod SetFaults
+pub mod TableNumbers
+pub mod SizeAnswers
+pub mod Parts
+pub mod SendRows
+pub mod PartsJoined
