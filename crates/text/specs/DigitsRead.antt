@@ -2,7 +2,7 @@
 use mathlib.Core.Path.{_≡_, refl, sym, ap, subst, _∙_}
 use mathlib.Core.Bool.{Bool, true, false, not, _&&_, cond, and-false}
 use mathlib.Core.List.{List, [], _∷_}
-use Prim.Native.Nat.{ℕ, suc, _+_, _-_, _*_, _<_, _≤_, zero-le}
+use Prim.Native.Nat.{ℕ, zero, suc, _+_, _-_, _*_, _<_, _≤_}
 use native.Mathlib.Nat.{le-refl, add-zero}
 use native.Mathlib.Decide.{decLe}
 use native.Mathlib.Omega.{arith}
@@ -11,6 +11,7 @@ use lib.ListN.{length, getD, drop, drop-of-length-le}
 use lib.Seq.{drop-cons, drop-drop, getD-drop}
 use borrow.Author.Tests.{eqb-true, ltb-true, ltb-false, eqb-false, leb-true, leb-false, lt-ltb, le-ltb, le-leb, lt-leb, ne-eqb}
 use Rattle.document.specs.Text.{fields, isDigit, allDigits, plain, valueFrom, valueOf, isNumber}
+use Rattle.laws.specs.WrittenNumbers.{tens}
 use Rattle.text.specs.Places.{first, lookByte, lookAt}
 use Rattle.text.specs.NumberAnswers.{valueRead, noValue, numberIn, numberOf}
 use Rattle.text.specs.Fields.{Sep, is-tab, is-lf, within, sep, first-within}
@@ -129,6 +130,27 @@ pub bad-plain : (f : List ℕ) → plain f ≡ false → isNumber f ≡ false
 unfolding isNumber
 bad-plain f h = rw h
 
+-- and more than five bytes: the first is a leading zero, no digit, or stands for 100,000 or more
+pub bad-length : (f : List ℕ) → 5 < length f → isNumber f ≡ false
+unfolding valueFrom allDigits
+bad-length (a ∷ b ∷ c ∷ d ∷ e ∷ g ∷ f) h =
+    elim (decLe a 48) [
+      | yes l ↦ low (eqb a 48) refl l
+      | no l ↦
+          let v : ℕ = (((((0 * 10 + (a - 48)) * 10 + (b - 48)) * 10 + (c - 48)) * 10 + (d - 48)) * 10 + (e - 48)) * 10 + (g - 48) in
+          bad-value (a ∷ b ∷ c ∷ d ∷ e ∷ g ∷ f) (omega (arith, value-grows f v))
+    ]
+  where
+    low : (z : Bool) → eqb a 48 ≡ z → a ≤ 48 → isNumber (a ∷ b ∷ c ∷ d ∷ e ∷ g ∷ f) ≡ false
+    low true q l = bad-plain (a ∷ b ∷ c ∷ d ∷ e ∷ g ∷ f) (rw q)
+    low false q l = bad-digit (a ∷ b ∷ c ∷ d ∷ e ∷ g ∷ f) (rw (lt-leb 48 a (omega (arith, eqb-false a 48 q))))
+bad-length [] h = absurd (omega arith)
+bad-length (a ∷ []) h = absurd (omega arith)
+bad-length (a ∷ b ∷ []) h = absurd (omega arith)
+bad-length (a ∷ b ∷ c ∷ []) h = absurd (omega arith)
+bad-length (a ∷ b ∷ c ∷ d ∷ []) h = absurd (omega arith)
+bad-length (a ∷ b ∷ c ∷ d ∷ e ∷ []) h = absurd (omega arith)
+
 pub good-number : (f : List ℕ) → plain f ≡ true → allDigits f ≡ true → valueOf f ≤ 65535 → isNumber f ≡ true
 unfolding isNumber
 good-number f p d v = rw (p, d, le-leb (valueOf f) 65535 v)
@@ -196,12 +218,27 @@ pub record DigitsSoFar (s : List ℕ) (from i v d : ℕ) : Type 0 where
   pub all : allDigits (first (drop from s)) ≡ allDigits (first (drop i s))
   pub value : valueOf (first (drop from s)) ≡ valueFrom v (first (drop i s))
   pub size : from + length (first (drop from s)) ≡ i + length (first (drop i s))
-  pub small : v ≤ 65535
+  pub after : from ≤ i
+  pub few : i - from ≤ 5
+  pub small : v < tens (i - from)
   pub sees : d ≡ lookAt (drop i s)
   pub known : d ≤ 11
 
 pub digits-start : (s : List ℕ) (from d : ℕ) → d ≡ lookAt (drop from s) → d ≤ 11 → DigitsSoFar s from from 0 d
-digits-start s from d e h = record { all = refl; value = refl; size = refl; small = zero-le; sees = e; known = h }
+unfolding tens
+digits-start s from d e h =
+    let z : from - from ≡ 0 = omega arith in
+    record { all = refl; value = refl; size = refl; after = le-refl from; few = omega arith; small = rw z (omega arith); sees = e; known = h }
+
+-- before the fifth digit a value has at most four
+tens-four : (n : ℕ) → n < 5 → tens n ≤ 10000
+unfolding tens
+tens-four zero h = omega arith
+tens-four (suc zero) h = omega arith
+tens-four (suc (suc zero)) h = omega arith
+tens-four (suc (suc (suc zero))) h = omega arith
+tens-four (suc (suc (suc (suc zero)))) h = omega arith
+tens-four (suc (suc (suc (suc (suc n))))) h = absurd (omega arith)
 
 module _ (s : List ℕ) (from i v d : ℕ) (inv : DigitsSoFar s from i v d) where
   here : d < 10 → Digit (drop i s) (drop (i + 1) s)
@@ -213,32 +250,43 @@ module _ (s : List ℕ) (from i v d : ℕ) (inv : DigitsSoFar s from i v d) wher
   pub digits-inside : d < 10 → i < length s
   digits-inside h = look-inside s i (subst (λ (n : ℕ). n < 10) (inv .sees) h)
 
-  pub digits-more : (e : ℕ) → d < 10 → v * 10 + d ≤ 65535 → e ≡ lookAt (drop (i + 1) s) → e ≤ 11 → DigitsSoFar s from (i + 1) (v * 10 + d) e
+  pub digits-room : i - from < 5 → v ≤ 9999
+  digits-room h = omega (arith, inv .small, tens-four (i - from) h)
+
+  pub digits-more : (e : ℕ) → d < 10 → i - from < 5 → e ≡ lookAt (drop (i + 1) s) → e ≤ 11 → DigitsSoFar s from (i + 1) (v * 10 + d) e
+  unfolding tens
   digits-more e h k q l =
+      let z : i + 1 - from ≡ suc (i - from) = omega (arith, inv .after) in
       record {
         all = inv .all ∙ here h .all;
         value = step h;
         size = omega (arith, inv .size, here h .size);
-        small = k;
+        after = omega (arith, inv .after);
+        few = omega arith;
+        small = rw z (omega (arith, inv .small));
         sees = q;
         known = l;
       }
 
-  pub digits-large : d < 10 → 65535 < v * 10 + d → numberIn from (first (drop from s)) ≡ noValue
-  digits-large h k =
+  pub digits-many : d < 10 → 5 ≤ i - from → numberIn from (first (drop from s)) ≡ noValue
+  digits-many h k =
+      number-refused from (first (drop from s)) (bad-length (first (drop from s)) (omega (arith, inv .size, here h .size)))
+
+  pub digits-large : 65535 < v → numberIn from (first (drop from s)) ≡ noValue
+  digits-large k =
       number-refused from (first (drop from s))
-      (bad-value (first (drop from s)) (omega (arith, step h, value-grows (first (drop (i + 1) s)) (v * 10 + d))))
+      (bad-value (first (drop from s)) (omega (arith, inv .value, value-grows (first (drop i s)) v)))
 
   pub digits-other : d ≡ 11 → numberIn from (first (drop from s)) ≡ noValue
   digits-other h =
       number-refused from (first (drop from s))
       (bad-digit (first (drop from s)) (inv .all ∙ look-other (drop i s) (sym (inv .sees) ∙ h)))
 
-  pub digits-stop : (b : ℕ) → b ≡ getD s from 0 → 10 ≤ d → (d ≡ 11 → ⊥) → numberOf b from i v ≡ numberIn from (first (drop from s))
+  pub digits-stop : (b : ℕ) → b ≡ getD s from 0 → 10 ≤ d → (d ≡ 11 → ⊥) → v ≤ 65535 → numberOf b from i v ≡ numberIn from (first (drop from s))
   unfolding allDigits valueFrom
-  digits-stop b q h k =
+  digits-stop b q h k m =
       let e : d ≡ 10 = omega (arith, inv .known) in
       let n = look-stop (drop i s) (sym (inv .sees) ∙ e) in
       ap (λ (b : ℕ). numberOf b from i v) (q ∙ ap (λ (j : ℕ). getD s j 0) (sym (add-zero from)) ∙ sym (getD-drop from s 0 0))
-      ∙ digits-number from (drop from s) i v (inv .all ∙ ap allDigits n) (inv .value ∙ ap (valueFrom v) n) (inv .small)
+      ∙ digits-number from (drop from s) i v (inv .all ∙ ap allDigits n) (inv .value ∙ ap (valueFrom v) n) m
       (omega (arith, inv .size, ap length n))

@@ -61,7 +61,11 @@ fn look_at(s: &[u8], at: usize) -> u32
     if at < s.len() { look_byte(s[at]) } else { 10 }
 }
 
-// The number at a place: decimal, without sign or leading zero, at most 65,535, ended by a tab, an LF or the text's end.
+// No number has more digits.
+const MOST_DIGITS: usize = 5;
+
+// The number at a place: decimal, without sign or leading zero, at most 65,535, ended by a tab, an LF or the text's end. Its digits are counted as
+// they come and its value is tested once, behind them: that is quicker than a test of the value at each digit.
 fn number_at(s: &[u8], from: usize) -> NumberRead
     ensures { λ r. ⌜ numberSays r ≡ numberIn from (first (drop from (now (s .entry)))) ⌝ }
 {
@@ -69,14 +73,17 @@ fn number_at(s: &[u8], from: usize) -> NumberRead
     let mut v: u32 = 0;
     let mut d = look_at(s, i);
     while d < 10 {
-        v = v * 10 + d;
-        if 65535 < v {
+        if MOST_DIGITS <= i - from {
             return NumberRead::Refused;
         }
+        v = v * 10 + d;
         i += 1;
         d = look_at(s, i);
     }
     if d == 11 {
+        return NumberRead::Refused;
+    }
+    if 65535 < v {
         return NumberRead::Refused;
     }
     number_of(byte_at(s, from), from, i, v as u16)
