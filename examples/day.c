@@ -101,7 +101,7 @@ int main(int words, char **word)
     fclose(file);
     v = rembasuk_verdict((const uint8_t *)text, length);
     if (v.refusal != 0) {
-        fprintf(stderr, "day: line %zu: %s\n", v.line, rembasuk_refusal_text(v.refusal));
+        fprintf(stderr, "day: line %zu, field %zu: %s\n", v.line, v.field, rembasuk_refusal_text(v.refusal));
         return 1;
     }
     if (!v.tightened) {

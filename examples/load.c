@@ -51,7 +51,7 @@ int main(int words, char **word)
     /* first how much to lend, then the table; the reader has tested the text's form, so its first line has the map */
     frame = rembasuk_superframe_size((const uint8_t *)text, length);
     if (frame.line != 0) {
-        fprintf(stderr, "load: line %lu: %s\n", (unsigned long)frame.line, rembasuk_refusal_text(frame.refusal));
+        fprintf(stderr, "load: line %zu, field %zu: %s\n", frame.line, frame.field, rembasuk_refusal_text(frame.refusal));
         return 1;
     }
     if (frame.refusal != 0) {

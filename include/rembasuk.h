@@ -8,6 +8,7 @@
  *     set   MAP                                    the channel map, bit i for IEEE 802.15.4 channel 11 + i
  *     flow  T  D  a  TRIES  NODE  NODE ..          period, deadline, start, tries, route of 2 to 17 nodes; at most 64 such lines
  * Numbers are decimal, 0 to 65535, without sign or leading zero. Flows are numbered from 0 in order of their lines, tries from 0.
+ * Lines and the fields of a line are counted from 1: the word is field 1, MAP is 2; T, D, a and TRIES are 2 to 5, the nodes 6, 7 and so on.
  * Each call reads the whole text again and keeps nothing of it. Call rembasuk_verdict once, before the first slot.
  *
  * WHAT ADMISSION PROMISES. If a test admits the set, and the slots are made one after the other from the fresh state, each once, each
@@ -97,19 +98,23 @@ extern "C" {
 #define REMBASUK_SUPERFRAME_STACK 65536
 #define REMBASUK_TABLE_STACK 16384
 
-/* The refusals by number, as the answers have them. 1 to 9 name the text's line, counted from 1; the others line 0. */
+/* The refusals by number, as the answers have them. 1 to 9 name the text's line; the others line 0.
+ * An answer over a set's text also names the FIELD of that line, for whoever typed the set: below it is said of each. 0 names none: nothing is
+ * refused, no one field is to blame, or no line is named. A line that is refused may be of any length, so a field is a size_t, as a line is.
+ * Of a table's lines no field is named: their answers have none. */
 typedef enum {
     REMBASUK_NOT_REFUSED = 0,
     REMBASUK_BAD_FORM = 1,          /* the line lacks its form: a wrong word or number, blanks for tabs, CR, no LF at the end, an empty text of a set;
-                                       of a table also a line that does not rise above the one before */
-    REMBASUK_NO_CHANNEL = 2,        /* map 0 */
-    REMBASUK_TOO_MANY_FLOWS = 3,    /* a 65th flow */
-    REMBASUK_BAD_PERIOD = 4,        /* period 0 */
-    REMBASUK_BAD_DEADLINE = 5,      /* deadline 0 or above the period */
-    REMBASUK_BAD_TRIES = 6,         /* tries outside 1 to 4 */
-    REMBASUK_BAD_ROUTE = 7,         /* fewer than 2 or more than 17 nodes */
-    REMBASUK_EQUAL_NEIGHBOURS = 8,  /* a node equals the one just before it in the route */
-    REMBASUK_TOO_MUCH_WORK = 9,     /* links x tries above the deadline */
+                                       of a table also a line that does not rise above the one before. Field: the first bad one, which is not the
+                                       word, no number, or one more after MAP; 0 where none is: numbers or the LF are missing, or the text is empty */
+    REMBASUK_NO_CHANNEL = 2,        /* map 0; field 2 */
+    REMBASUK_TOO_MANY_FLOWS = 3,    /* a 65th flow; field 1 */
+    REMBASUK_BAD_PERIOD = 4,        /* period 0; field 2 */
+    REMBASUK_BAD_DEADLINE = 5,      /* deadline 0 or above the period; field 3 */
+    REMBASUK_BAD_TRIES = 6,         /* tries outside 1 to 4; field 5 */
+    REMBASUK_BAD_ROUTE = 7,         /* fewer than 2 or more than 17 nodes; field 0 */
+    REMBASUK_EQUAL_NEIGHBOURS = 8,  /* a node equals the one just before it in the route; field: the first such node, the later of the two */
+    REMBASUK_TOO_MUCH_WORK = 9,     /* links x tries above the deadline; field 0 */
     REMBASUK_NO_ROOM = 10,          /* the lent buffer is shorter than what is to be written */
     REMBASUK_AT_LAST_SLOT = 11,     /* the state is at slot 4000000000 */
     REMBASUK_BAD_STATE = 12,        /* its slot is above the last, a count is above its flow's C or beyond the last flow, or it has not 68 bytes */
@@ -148,6 +153,7 @@ static inline const char *rembasuk_refusal_text(uint32_t refusal)
 typedef struct {
     uint32_t refusal;   /* 0, or 1 to 9 */
     size_t line;        /* the line that is refused, or 0 */
+    size_t field;       /* its field that is bad, or 0 */
     uint32_t basic;     /* 1 if the basic test admits the set */
     uint32_t tightened; /* 1 if the tightened test admits it; it admits whatever the basic test admits */
     uint32_t rounds;    /* how many rounds the tightened test took */
@@ -157,6 +163,7 @@ typedef struct {
 typedef struct {
     uint32_t refusal;   /* 0, 1 to 9, or 13 */
     size_t line;        /* the line that is refused, or 0 */
+    size_t field;       /* its field that is bad, or 0 */
     uint32_t work;      /* C, the transmissions of one packet: links x tries */
     uint32_t basic;     /* the basic delay bound */
     uint32_t tightened; /* the tightened delay bound */
@@ -168,6 +175,7 @@ typedef struct {
 typedef struct {
     uint32_t refusal;   /* 0, 1 to 9, 12, 11 or 10, in this order where several apply */
     size_t line;        /* the line that is refused, or 0 */
+    size_t field;       /* its field that is bad, or 0 */
     size_t length;      /* how many bytes of the second buffer are the slot's `send` lines; 0 if refused */
 } rembasuk_slot_answer;
 
@@ -189,6 +197,7 @@ rembasuk_slot_answer rembasuk_slot(const uint8_t *text, size_t text_length, uint
 typedef struct {
     uint32_t refusal;   /* 0, 1 to 9, or 10 */
     size_t line;        /* the line that is refused, or 0 */
+    size_t field;       /* its field that is bad, or 0 */
     size_t numbers;     /* how many 32-bit numbers of the table are the flows' bounds, four a flow; 0 if refused */
 } rembasuk_table_answer;
 
@@ -202,6 +211,7 @@ rembasuk_table_answer rembasuk_all_bounds(const uint8_t *text, size_t text_lengt
 typedef struct {
     uint32_t refusal;   /* 0, 1 to 9, 14, 15, 16, and 10 where a table is lent, in this order where several apply */
     size_t line;        /* the line that is refused, or 0 */
+    size_t field;       /* its field that is bad, or 0 */
     uint32_t hyper;     /* the hyper-period in slots, 1 to 65535; 1 with no flows */
     size_t numbers;     /* how many 16-bit numbers the table has, four a transmission */
 } rembasuk_superframe_answer;
@@ -213,15 +223,29 @@ rembasuk_superframe_answer rembasuk_superframe_size(const uint8_t *text, size_t 
  * `numbers` does. On any refusal the table does not change. Refusals: 1 to 9, then 14, 15, 16, 10. */
 rembasuk_superframe_answer rembasuk_superframe(const uint8_t *text, size_t text_length, uint16_t *table, size_t room);
 
+/* What writing a table's lines wrote. */
+typedef struct {
+    uint32_t refusal;   /* 0 or 10 */
+    size_t line;        /* 0 */
+    size_t length;      /* how many bytes of the buffer are the lines; 0 if refused */
+} rembasuk_lines_answer;
+
+/* What reading a table's lines wrote. */
+typedef struct {
+    uint32_t refusal;   /* 0, 1 or 10 */
+    size_t line;        /* the line that is refused, or 0 */
+    size_t numbers;     /* how many 16-bit numbers of the table were read, four a line; 0 if refused */
+} rembasuk_rows_answer;
+
 /* A table of `numbers` 16-bit numbers as lines at the start of `lines`, whose further bytes stay as they were: each row four numbers parted by
  * one tab and ended by LF, no word. Any table is taken: up to three numbers behind the last whole row don't count, and its order is not
- * tested. On a refusal no byte changes. Refusals: 10. `length` of the answer is how many bytes are the lines. */
-rembasuk_slot_answer rembasuk_table_write(const uint16_t *table, size_t numbers, uint8_t *lines, size_t room);
+ * tested. On a refusal no byte changes. Refusals: 10. */
+rembasuk_lines_answer rembasuk_table_write(const uint16_t *table, size_t numbers, uint8_t *lines, size_t room);
 
 /* Such lines read into the start of `table`, whose further numbers stay as they were. 1 names the first line that has not this form or whose
  * slot and offset do not rise strictly above those of the line before; then 10 where the rows don't fit. An empty text is an empty
  * table. No set is asked: flows, numbers and offsets are not tested. On a refusal the table does not change. */
-rembasuk_table_answer rembasuk_table_read(const uint8_t *lines, size_t length, uint16_t *table, size_t room);
+rembasuk_rows_answer rembasuk_table_read(const uint8_t *lines, size_t length, uint16_t *table, size_t room);
 
 /* The radio channel of an offset in a slot: the one at place (slot + offset) mod m among the m channels of the map in rising order. 0 for map 0
  * and for a number above 65535, which is no map. */

@@ -51,8 +51,8 @@ static int rises(const uint16_t *rows, size_t numbers)
 /* What is written of a rising table is read as this table. */
 static void through_lines(size_t numbers)
 {
-    rembasuk_slot_answer w = rembasuk_table_write(table, numbers, lines, sizeof lines);
-    rembasuk_table_answer r = rembasuk_table_read(lines, w.length, again, numbers);
+    rembasuk_lines_answer w = rembasuk_table_write(table, numbers, lines, sizeof lines);
+    rembasuk_rows_answer r = rembasuk_table_read(lines, w.length, again, numbers);
     must(w.refusal == 0 && r.refusal == 0 && r.numbers == numbers && memcmp(table, again, 2 * numbers) == 0);
 }
 
@@ -63,6 +63,7 @@ static void as_text(const uint8_t *text, size_t length, size_t less)
     rembasuk_verdict_answer v = rembasuk_verdict(text, length);
     size_t room = size.numbers > less ? size.numbers - less : 0;
     must(v.refusal == 0 ? size.refusal == 0 || (size.refusal >= 14 && size.refusal <= 16) : size.refusal == v.refusal && size.line == v.line);
+    must(size.field == v.field);
     must((size.refusal == 14) == (v.refusal == 0 && !v.tightened)); /* the tightened test admits whatever the basic one admits */
     must(size.refusal == 0 ? size.hyper > 0 && size.hyper <= REMBASUK_MOST_HYPER_PERIOD : size.hyper == 0 && size.numbers == 0);
     must(size.numbers % REMBASUK_ROW_LENGTH == 0 && size.numbers <= REMBASUK_SUPERFRAME_LENGTH);
@@ -70,7 +71,7 @@ static void as_text(const uint8_t *text, size_t length, size_t less)
     a = rembasuk_superframe(text, length, table, room);
     must(a.refusal == (size.refusal == 0 && room < size.numbers ? 10 : size.refusal) && filled(a.numbers, size.numbers + 4));
     a = rembasuk_superframe(text, length, table, size.numbers + 3);
-    must(a.refusal == size.refusal && a.line == size.line && a.hyper == size.hyper && a.numbers == size.numbers);
+    must(a.refusal == size.refusal && a.line == size.line && a.field == size.field && a.hyper == size.hyper && a.numbers == size.numbers);
     must(filled(a.numbers, a.numbers + 4) && rises(table, a.numbers) && (a.numbers == 0 || table[a.numbers - 4] < a.hyper));
     through_lines(a.numbers);
 }
@@ -78,7 +79,7 @@ static void as_text(const uint8_t *text, size_t length, size_t less)
 /* The bytes as a table's lines. */
 static void as_lines(const uint8_t *text, size_t length, size_t room)
 {
-    rembasuk_table_answer whole, a;
+    rembasuk_rows_answer whole, a;
     fill(length + room);
     a = rembasuk_table_read(text, length, table, room);
     must(a.refusal == 0 || a.refusal == 1 || a.refusal == 10);
@@ -87,7 +88,7 @@ static void as_lines(const uint8_t *text, size_t length, size_t room)
     must(whole.refusal != 10 && (whole.refusal == 1) == (a.refusal == 1) && whole.line == a.line); /* 1 before 10 */
     must((a.refusal == 10) == (whole.refusal == 0 && whole.numbers > room));
     if (whole.refusal == 0) {
-        rembasuk_slot_answer w = rembasuk_table_write(table, whole.numbers, lines, length);
+        rembasuk_lines_answer w = rembasuk_table_write(table, whole.numbers, lines, length);
         must(rises(table, whole.numbers) && w.refusal == 0 && w.length == length && memcmp(lines, text, length) == 0);
     }
 }
@@ -96,8 +97,8 @@ static void as_lines(const uint8_t *text, size_t length, size_t room)
 static void as_numbers(const uint8_t *bytes, size_t length, size_t less)
 {
     size_t numbers = length / 2, rows = numbers / REMBASUK_ROW_LENGTH * REMBASUK_ROW_LENGTH, room;
-    rembasuk_slot_answer w;
-    rembasuk_table_answer r;
+    rembasuk_lines_answer w;
+    rembasuk_rows_answer r;
     memcpy(table, bytes, 2 * numbers);
     w = rembasuk_table_write(table, numbers, lines, sizeof lines);
     must(w.refusal == 0 && w.line == 0 && w.length >= 2 * rows && w.length <= rows / REMBASUK_ROW_LENGTH * REMBASUK_ROW_LINE_LENGTH);

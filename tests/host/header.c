@@ -18,6 +18,13 @@
 #error "the lengths"
 #endif
 
+/* Whether the verdict's refusal is another than this one at line 2 and this field. */
+static int refused(const char *text, size_t length, uint32_t number, size_t field)
+{
+    rembasuk_verdict_answer v = rembasuk_verdict((const uint8_t *)text, length);
+    return v.refusal != number || v.line != 2 || v.field != field;
+}
+
 int main(void)
 {
     uint32_t i, j;
@@ -29,7 +36,8 @@ int main(void)
     uint8_t state[REMBASUK_STATE_LENGTH], lines[REMBASUK_LINES_LENGTH];
     uint16_t table[REMBASUK_ROW_LENGTH];
     rembasuk_superframe_answer f = rembasuk_superframe((const uint8_t *)set, strlen(set), table, REMBASUK_ROW_LENGTH);
-    rembasuk_table_answer r;
+    rembasuk_lines_answer w;
+    rembasuk_rows_answer r;
     rembasuk_slot_answer s;
     memset(state, 0, sizeof state);
     s = rembasuk_slot((const uint8_t *)set, strlen(set), state, sizeof state, lines, sizeof lines);
@@ -41,10 +49,16 @@ int main(void)
         puts("header: the superframe is answered otherwise");
         return 1;
     }
-    s = rembasuk_table_write(table, f.numbers, lines, sizeof lines);
-    r = rembasuk_table_read(lines, s.length, table, REMBASUK_ROW_LENGTH);
-    if (s.length != 8 || r.refusal != REMBASUK_NOT_REFUSED || r.numbers != 4 || rembasuk_channel(1, 9, 0) != REMBASUK_FIRST_CHANNEL) {
+    w = rembasuk_table_write(table, f.numbers, lines, sizeof lines);
+    r = rembasuk_table_read(lines, w.length, table, REMBASUK_ROW_LENGTH);
+    if (w.length != 8 || r.refusal != REMBASUK_NOT_REFUSED || r.numbers != 4 || rembasuk_channel(1, 9, 0) != REMBASUK_FIRST_CHANNEL) {
         puts("header: a table is answered otherwise");
+        return 1;
+    }
+    /* no LF, a node that is no number, and the node before it once more */
+    if (refused(set, strlen(set) - 1, REMBASUK_BAD_FORM, 0) || refused("set\t1\nflow\t10\t2\t0\t1\t1\tx\n", 24, REMBASUK_BAD_FORM, 7) ||
+        refused("set\t1\nflow\t10\t2\t0\t1\t1\t1\n", 24, REMBASUK_EQUAL_NEIGHBOURS, 7)) {
+        puts("header: a field is answered otherwise");
         return 1;
     }
     sprintf(version, "%d.%d.%d", REMBASUK_VERSION_MAJOR, REMBASUK_VERSION_MINOR, REMBASUK_VERSION_PATCH);

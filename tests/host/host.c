@@ -57,6 +57,21 @@ static rembasuk_slot_answer slot_of(const char *text, size_t length, uint8_t *st
     return a;
 }
 
+/* All bounds into a table of `room` numbers; checks that only the numbers answered change, and none on a refusal. */
+static rembasuk_table_answer table_of(const char *text, size_t length, uint32_t *out, size_t room, int at_end)
+{
+    uint8_t *t = lend(text_area, length, at_end);
+    uint8_t *lent = lend(table_area, 4 * room, at_end);
+    rembasuk_table_answer a;
+    memcpy(t, text, length);
+    a = rembasuk_all_bounds(t, length, (uint32_t *)(void *)lent, room);
+    CHECK(memcmp(t, text, length) == 0 && untouched(text_area, t, length));
+    CHECK(a.numbers <= room && (a.refusal == 0 || a.numbers == 0));
+    CHECK(untouched(table_area, lent, 4 * a.numbers));
+    memcpy(out, lent, 4 * a.numbers);
+    return a;
+}
+
 /* ---- the sets of document 01 */
 
 #define P1 "set\t3\nflow\t10\t8\t0\t1\t1\t2\t3\nflow\t20\t20\t0\t1\t4\t2\t5\n"
@@ -107,15 +122,15 @@ static void run_point(const point *p, int at_end)
     int t;
     size_t length = strlen(p->text);
     rembasuk_verdict_answer v = verdict_of(p->text, length, at_end);
-    CHECK(v.refusal == 0 && v.line == 0 && v.basic == p->basic && v.tightened == p->tightened && v.rounds > 0);
+    CHECK(v.refusal == 0 && v.line == 0 && v.field == 0 && v.basic == p->basic && v.tightened == p->tightened && v.rounds > 0);
     if (p->bounds != 0) {
         rembasuk_bounds_answer b = bounds_of(p->text, length, 0, at_end);
-        CHECK(b.refusal == 0 && b.basic == p->bounds && b.tightened == p->bounds);
+        CHECK(b.refusal == 0 && b.line == 0 && b.field == 0 && b.basic == p->bounds && b.tightened == p->bounds);
         CHECK(b.margin == (int32_t)b.deadline - (int32_t)b.tightened);
     }
     for (t = 0; t < p->slots; t++) {
         rembasuk_slot_answer a = slot_of(p->text, length, state, sizeof state, out, 512, at_end);
-        CHECK(a.refusal == 0 && a.line == 0);
+        CHECK(a.refusal == 0 && a.line == 0 && a.field == 0);
         strcat(all, out);
         CHECK(state[0] == t + 1 && state[1] == 0 && state[2] == 0 && state[3] == 0);
     }
@@ -142,43 +157,61 @@ static void l2_bounds(int at_end)
 
 /* ---- refusals */
 
-static void refused_text(const char *text, size_t length, uint32_t number, size_t line, int at_end)
+static void refused_text(const char *text, size_t length, uint32_t number, size_t line, size_t field, int at_end)
 {
     uint8_t state[REMBASUK_STATE_LENGTH] = {0}, odd[3] = {1, 2, 3};
+    uint32_t table[4];
     rembasuk_verdict_answer v = verdict_of(text, length, at_end);
     rembasuk_bounds_answer b = bounds_of(text, length, 99, at_end);
     rembasuk_slot_answer s = slot_of(text, length, state, sizeof state, NULL, 64, at_end);
-    CHECK(v.refusal == number && v.line == line && !v.basic && !v.tightened && !v.rounds);
-    CHECK(b.refusal == number && b.line == line && !b.work && !b.basic && !b.tightened && !b.deadline && !b.margin);
-    CHECK(s.refusal == number && s.line == line);
+    rembasuk_table_answer a = table_of(text, length, table, 4, at_end);
+    CHECK(v.refusal == number && v.line == line && v.field == field && !v.basic && !v.tightened && !v.rounds);
+    CHECK(b.refusal == number && b.line == line && b.field == field);
+    CHECK(!b.work && !b.basic && !b.tightened && !b.deadline && !b.margin);
+    CHECK(s.refusal == number && s.line == line && s.field == field);
+    CHECK(a.refusal == number && a.line == line && a.field == field && a.numbers == 0);
     /* the text is read before anything else is tested */
     s = slot_of(text, length, odd, sizeof odd, NULL, 0, at_end);
-    CHECK(s.refusal == number && s.line == line);
+    CHECK(s.refusal == number && s.line == line && s.field == field);
 }
 
 static void refused_texts(int at_end)
 {
     static char many[16384];
     int i;
-    refused_text("", 0, 1, 1, at_end);
-    refused_text("set\t3", 5, 1, 1, at_end);
-    refused_text("set\t03\n", 7, 1, 1, at_end);
-    refused_text("set\t3\n\n", 7, 1, 2, at_end);
-    refused_text("set\t3\n\0\n", 8, 1, 2, at_end);
-    refused_text(P10, strlen(P10), 2, 1, at_end);
-    refused_text("set\t3\nflow\t0\t0\t0\t0\n", 20, 4, 2, at_end);
-    refused_text("set\t3\nflow\t5\t6\t0\t0\n", 20, 5, 2, at_end);
-    refused_text("set\t3\nflow\t5\t5\t0\t5\n", 20, 6, 2, at_end);
-    refused_text("set\t3\nflow\t5\t5\t0\t1\n", 20, 7, 2, at_end);
-    refused_text("set\t1\nflow\t9\t9\t0\t1\t0\t0\n", 23, REMBASUK_EQUAL_NEIGHBOURS, 2, at_end);
-    refused_text("set\t1\nflow\t9\t9\t0\t1\t1\t1\t2\n", 25, REMBASUK_EQUAL_NEIGHBOURS, 2, at_end);
-    refused_text("set\t1\nflow\t9\t9\t0\t1\t1\t2\t2\n", 25, REMBASUK_EQUAL_NEIGHBOURS, 2, at_end);
-    refused_text(P9, strlen(P9), 9, 2, at_end);
+    refused_text("", 0, 1, 1, 0, at_end);
+    refused_text("set\t3", 5, 1, 1, 0, at_end);
+    refused_text("set\t03\n", 7, 1, 1, 2, at_end);
+    refused_text("set\t3\n\n", 7, 1, 2, 1, at_end);
+    refused_text("set\t3\n\0\n", 8, 1, 2, 1, at_end);
+    refused_text(P10, strlen(P10), 2, 1, 2, at_end);
+    refused_text("set\t3\nflow\t0\t0\t0\t0\n", 20, 4, 2, 2, at_end);
+    refused_text("set\t3\nflow\t5\t6\t0\t0\n", 20, 5, 2, 3, at_end);
+    refused_text("set\t3\nflow\t5\t5\t0\t5\n", 20, 6, 2, 5, at_end);
+    refused_text("set\t3\nflow\t5\t5\t0\t1\n", 20, 7, 2, 0, at_end);
+    refused_text("set\t1\nflow\t9\t9\t0\t1\t0\t0\n", 23, REMBASUK_EQUAL_NEIGHBOURS, 2, 7, at_end);
+    refused_text("set\t1\nflow\t9\t9\t0\t1\t1\t1\t2\n", 25, REMBASUK_EQUAL_NEIGHBOURS, 2, 7, at_end);
+    refused_text("set\t1\nflow\t9\t9\t0\t1\t1\t2\t2\n", 25, REMBASUK_EQUAL_NEIGHBOURS, 2, 8, at_end);
+    refused_text(P9, strlen(P9), 9, 2, 0, at_end);
     strcpy(many, "set\t1\n");
     for (i = 0; i < 65; i++) {
         strcat(many, "flow\t100\t100\t0\t1\t1\t2\n");
     }
-    refused_text(many, strlen(many), 3, 66, at_end);
+    refused_text(many, strlen(many), 3, 66, 1, at_end);
+}
+
+/* The bad field where the text ends at the page that may not be touched: in the word, in a number, and behind a tab. */
+static void refused_ends(int at_end)
+{
+    refused_text("se", 2, 1, 1, 1, at_end);
+    refused_text("set", 3, 1, 1, 0, at_end);
+    refused_text("set\t", 4, 1, 1, 2, at_end);
+    refused_text("set\t3\nfl", 8, 1, 2, 1, at_end);
+    refused_text("set\t3\nflow", 10, 1, 2, 0, at_end);
+    refused_text("set\t3\nflow\t", 11, 1, 2, 2, at_end);
+    refused_text("set\t3\nflow\t5\t5\t0\t1\t1\t2", 22, 1, 2, 0, at_end);
+    refused_text("set\t3\nflow\t5\t5\t0\t1\t1\tx", 22, 1, 2, 7, at_end);
+    refused_text("set\t3\nflow\t5\t5\t0\t1\t1\t", 21, 1, 2, 7, at_end);
 }
 
 static void put_slot(uint8_t *state, uint32_t t)
@@ -192,12 +225,15 @@ static void put_slot(uint8_t *state, uint32_t t)
 
 static uint32_t slot_refusal(uint8_t *state, size_t state_length, size_t room, int at_end)
 {
-    return slot_of(P1, strlen(P1), state, state_length, NULL, room, at_end).refusal;
+    rembasuk_slot_answer a = slot_of(P1, strlen(P1), state, state_length, NULL, room, at_end);
+    CHECK(a.line == 0 && a.field == 0);
+    return a.refusal;
 }
 
 static void refused_slots(int at_end)
 {
     uint8_t state[REMBASUK_STATE_LENGTH + 1] = {0};
+    rembasuk_bounds_answer b;
     size_t need = strlen("send\t0\t0\t1\t2\t0\t11\n");
     CHECK(slot_refusal(state, REMBASUK_STATE_LENGTH - 1, 64, at_end) == 12);
     CHECK(slot_refusal(state, REMBASUK_STATE_LENGTH + 1, 64, at_end) == 12);
@@ -221,7 +257,8 @@ static void refused_slots(int at_end)
     state[4] = 2;
     state[5] = 2;
     CHECK(slot_refusal(state, REMBASUK_STATE_LENGTH, 0, at_end) == 0 && state[0] == 10);
-    CHECK(bounds_of(P1, strlen(P1), 2, at_end).refusal == 13);
+    b = bounds_of(P1, strlen(P1), 2, at_end);
+    CHECK(b.refusal == 13 && b.line == 0 && b.field == 0);
     CHECK(bounds_of(P1, strlen(P1), 0xffffffffu, at_end).refusal == 13);
 }
 
@@ -239,7 +276,7 @@ static void longest_lines(uint32_t slot, int at_end)
     memcpy(before, state, sizeof state);
     /* `slot_of` checks that a refusal leaves every byte of both buffers as it was */
     a = slot_of(text, length, state, sizeof state, NULL, REMBASUK_LINES_LENGTH - 1, at_end);
-    CHECK(a.refusal == 10 && a.line == 0 && memcmp(state, before, sizeof state) == 0);
+    CHECK(a.refusal == 10 && a.line == 0 && a.field == 0 && memcmp(state, before, sizeof state) == 0);
     a = slot_of(text, length, state, sizeof state, out, REMBASUK_LINES_LENGTH, at_end);
     CHECK(a.refusal == 0 && a.length == REMBASUK_LINES_LENGTH);
     for (i = 0; i < a.length; i++) {
@@ -277,11 +314,11 @@ static void limits(int at_end)
     CHECK(length == REMBASUK_TEXT_LENGTH && verdict_of(text, length, at_end).refusal == REMBASUK_NOT_REFUSED);
     CHECK(bounds_of(text, length, REMBASUK_MOST_FLOWS - 1, at_end).work == REMBASUK_MOST_LINKS * REMBASUK_MOST_TRIES);
     length = large_set(text, flows + 1, 2, 1);
-    refused_text(text, length, REMBASUK_TOO_MANY_FLOWS, REMBASUK_MOST_FLOWS + 2, at_end);
+    refused_text(text, length, REMBASUK_TOO_MANY_FLOWS, REMBASUK_MOST_FLOWS + 2, 1, at_end);
     length = large_set(text, 1, nodes + 1, 1);
-    refused_text(text, length, REMBASUK_BAD_ROUTE, 2, at_end);
+    refused_text(text, length, REMBASUK_BAD_ROUTE, 2, 0, at_end);
     length = large_set(text, 1, 2, tries + 1);
-    refused_text(text, length, REMBASUK_BAD_TRIES, 2, at_end);
+    refused_text(text, length, REMBASUK_BAD_TRIES, 2, 5, at_end);
     put_slot(state, REMBASUK_LAST_SLOT);
     CHECK(slot_refusal(state, sizeof state, 0, at_end) == REMBASUK_AT_LAST_SLOT);
     put_slot(state, REMBASUK_LAST_SLOT + 1);
@@ -298,27 +335,12 @@ static void limits(int at_end)
 
 /* ---- the bounds of all flows */
 
-/* All bounds into a table of `room` numbers; checks that only the numbers answered change, and none on a refusal. */
-static rembasuk_table_answer table_of(const char *text, size_t length, uint32_t *out, size_t room, int at_end)
-{
-    uint8_t *t = lend(text_area, length, at_end);
-    uint8_t *lent = lend(table_area, 4 * room, at_end);
-    rembasuk_table_answer a;
-    memcpy(t, text, length);
-    a = rembasuk_all_bounds(t, length, (uint32_t *)(void *)lent, room);
-    CHECK(memcmp(t, text, length) == 0 && untouched(text_area, t, length));
-    CHECK(a.numbers <= room && (a.refusal == 0 || a.numbers == 0));
-    CHECK(untouched(table_area, lent, 4 * a.numbers));
-    memcpy(out, lent, 4 * a.numbers);
-    return a;
-}
-
 /* The table has what rembasuk_bounds says of each flow. */
 static void same_bounds(const char *text, uint32_t flows, int at_end)
 {
     uint32_t table[260], k;
     rembasuk_table_answer a = table_of(text, strlen(text), table, 4 * flows + 3, at_end);
-    CHECK(a.refusal == 0 && a.line == 0 && a.numbers == 4 * flows);
+    CHECK(a.refusal == 0 && a.line == 0 && a.field == 0 && a.numbers == 4 * flows);
     for (k = 0; k < flows; k++) {
         rembasuk_bounds_answer b = bounds_of(text, strlen(text), k, at_end);
         CHECK(b.refusal == 0 && table[4 * k] == b.work && table[4 * k + 1] == b.basic);
@@ -333,16 +355,16 @@ static void all_bounds(int at_end)
     uint32_t table[8];
     rembasuk_table_answer a = table_of(P1, strlen(P1), table, 8, at_end);
     size_t i;
-    CHECK(a.refusal == 0 && a.line == 0 && a.numbers == 8 && memcmp(table, p1, sizeof p1) == 0);
+    CHECK(a.refusal == 0 && a.line == 0 && a.field == 0 && a.numbers == 8 && memcmp(table, p1, sizeof p1) == 0);
     /* one short, none, and a refused text before too short a table */
     a = table_of(P1, strlen(P1), table, 7, at_end);
-    CHECK(a.refusal == 10 && a.line == 0);
+    CHECK(a.refusal == 10 && a.line == 0 && a.field == 0);
     a = table_of(P1, strlen(P1), table, 0, at_end);
-    CHECK(a.refusal == 10 && a.line == 0);
+    CHECK(a.refusal == 10 && a.line == 0 && a.field == 0);
     a = table_of(P9, strlen(P9), table, 8, at_end);
-    CHECK(a.refusal == 9 && a.line == 2);
+    CHECK(a.refusal == 9 && a.line == 2 && a.field == 0);
     a = table_of(P9, strlen(P9), table, 0, at_end);
-    CHECK(a.refusal == 9 && a.line == 2);
+    CHECK(a.refusal == 9 && a.line == 2 && a.field == 0);
     /* no flows need no room */
     a = table_of("set\t1\n", 6, table, 0, at_end);
     CHECK(a.refusal == 0 && a.line == 0 && a.numbers == 0);
@@ -371,7 +393,7 @@ static void empty_buffers(void)
     rembasuk_verdict_answer v = rembasuk_verdict(NULL, 0);
     rembasuk_slot_answer s;
     rembasuk_table_answer a;
-    CHECK(v.refusal == 1 && v.line == 1);
+    CHECK(v.refusal == 1 && v.line == 1 && v.field == 0);
     s = rembasuk_slot((const uint8_t *)"set\t1\n", 6, state, sizeof state, NULL, 0);
     CHECK(s.refusal == 0 && s.length == 0 && state[0] == 1);
     s = rembasuk_slot((const uint8_t *)"set\t1\n", 6, NULL, 0, NULL, 0);
@@ -397,6 +419,7 @@ int main(void)
         p1_bounds(at_end);
         l2_bounds(at_end);
         refused_texts(at_end);
+        refused_ends(at_end);
         refused_slots(at_end);
         limits(at_end);
         longest_lines(1000000000u, at_end);

@@ -1,5 +1,5 @@
-/* README's host, as it stands there; with a slot and a number of slots in its words it runs the busy set from that slot. The script
- * tests/host/run takes the host out of README.md into readme_host.c. */
+/* README's host, as it stands there; with a set in its words it runs that set for a slot, with a slot and a number of slots the busy set from
+ * that slot. The script tests/host/run takes the host out of README.md into readme_host.c. */
 #define main readme_main
 #include "readme_host.c"
 #undef main
@@ -14,6 +14,9 @@ int main(int count, char **words)
     uint8_t state[REMBASUK_STATE_LENGTH] = {0};
     uint32_t slot;
     int i, failed;
+    if (count == 2) {
+        return run(words[1], state, 1);
+    }
     if (count != 3) {
         return readme_main();
     }

@@ -118,6 +118,10 @@ int main(void) {
     bad += check("rembasuk_superframe_size", superframe_size, REMBASUK_SUPERFRAME_STACK) + check("rembasuk_superframe", superframe, REMBASUK_SUPERFRAME_STACK);
     bad += check("rembasuk_table_write", table_write, REMBASUK_TABLE_STACK) + check("rembasuk_table_read", table_read, REMBASUK_TABLE_STACK);
     bad += check("rembasuk_channel", channel, REMBASUK_TABLE_STACK);
+    /* the last node is no number: the last line is gone through again for the bad field */
+    make_text();
+    text[length - 2] = 'x';
+    bad += check("rembasuk_verdict, refused", verdict, REMBASUK_VERDICT_STACK) + check("rembasuk_slot, refused", slot, REMBASUK_SLOT_STACK);
     if (numbers == 0 || bytes == 0) {
         puts("stack: no table was made");
         bad++;

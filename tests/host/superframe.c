@@ -27,19 +27,19 @@ static rembasuk_superframe_answer load(const char *text, uint16_t *out, size_t r
     CHECK(a.numbers <= room && (a.refusal == 0 || (a.numbers == 0 && a.hyper == 0)));
     CHECK(untouched(table_area, lent, 2 * a.numbers));
     if (a.refusal == 10) {
-        CHECK(size.refusal == 0 && size.line == 0 && a.line == 0 && size.numbers > room && size.hyper > 0);
+        CHECK(size.refusal == 0 && size.line == 0 && size.field == 0 && size.numbers > room && size.hyper > 0 && a.line == 0 && a.field == 0);
     } else {
-        CHECK(size.refusal == a.refusal && size.line == a.line && size.hyper == a.hyper && size.numbers == a.numbers);
+        CHECK(size.refusal == a.refusal && size.line == a.line && size.field == a.field && size.hyper == a.hyper && size.numbers == a.numbers);
     }
     memcpy(out, lent, 2 * a.numbers);
     return a;
 }
 
 /* A call of rembasuk_table_write into `room` bytes. */
-static rembasuk_slot_answer write_lines(const uint16_t *table, size_t numbers, char *out, size_t room, int at_end)
+static rembasuk_lines_answer write_lines(const uint16_t *table, size_t numbers, char *out, size_t room, int at_end)
 {
     uint8_t *t = lend(table_area, 2 * numbers, at_end), *l = lend(lines_area, room, at_end);
-    rembasuk_slot_answer a;
+    rembasuk_lines_answer a;
     memcpy(t, table, 2 * numbers);
     a = rembasuk_table_write((const uint16_t *)(const void *)t, numbers, l, room);
     CHECK(memcmp(t, table, 2 * numbers) == 0 && untouched(table_area, t, 2 * numbers));
@@ -50,10 +50,10 @@ static rembasuk_slot_answer write_lines(const uint16_t *table, size_t numbers, c
 }
 
 /* A call of rembasuk_table_read into `room` numbers. */
-static rembasuk_table_answer read_lines(const char *lines, size_t length, uint16_t *out, size_t room, int at_end)
+static rembasuk_rows_answer read_lines(const char *lines, size_t length, uint16_t *out, size_t room, int at_end)
 {
     uint8_t *l = lend(lines_area, length, at_end), *t = lend(table_area, 2 * room, at_end);
-    rembasuk_table_answer a;
+    rembasuk_rows_answer a;
     memcpy(l, lines, length);
     a = rembasuk_table_read(l, length, (uint16_t *)(void *)t, room);
     CHECK(memcmp(l, lines, length) == 0 && untouched(lines_area, l, length));
@@ -87,12 +87,12 @@ static void run_set(const loaded *s, int at_end)
     static char lines[1024];
     size_t length = strlen(s->lines), numbers = rembasuk_superframe_size((const uint8_t *)s->text, strlen(s->text)).numbers, more;
     rembasuk_superframe_answer a;
-    rembasuk_slot_answer w;
-    rembasuk_table_answer r;
+    rembasuk_lines_answer w;
+    rembasuk_rows_answer r;
     CHECK(numbers % REMBASUK_ROW_LENGTH == 0 && numbers <= 252);
     for (more = 0; more < 4; more++) {
         a = load(s->text, table, numbers + more, at_end);
-        CHECK(a.refusal == 0 && a.line == 0 && a.hyper == s->hyper && a.numbers == numbers);
+        CHECK(a.refusal == 0 && a.line == 0 && a.field == 0 && a.hyper == s->hyper && a.numbers == numbers);
         /* up to three numbers left over don't count */
         memset(table + numbers, 0, 2 * more);
         w = write_lines(table, numbers + more, lines, length + more, at_end);
@@ -141,28 +141,31 @@ static void repeats(const char *text, uint32_t map, int flows_have_one_try)
 
 /* ---- refusals */
 
-static void refused_set(const char *text, uint32_t number, size_t line, int at_end)
+static void refused_set(const char *text, uint32_t number, size_t line, size_t field, int at_end)
 {
     uint16_t table[64];
     size_t room;
     for (room = 0; room < 64; room += 9) {
         rembasuk_superframe_answer a = load(text, table, room, at_end);
-        CHECK(a.refusal == number && a.line == line);
+        CHECK(a.refusal == number && a.line == line && a.field == field);
     }
 }
 
 static void refused_sets(int at_end)
 {
-    refused_set("", 1, 1, at_end);
-    refused_set("set\t0\n", 2, 1, at_end);
-    refused_set("set\t1\nflow\t10\t3\t5\t2\t1\t2\t3\n", 9, 2, at_end);
-    refused_set(P3, REMBASUK_NOT_ADMITTED, 0, at_end);
+    refused_set("", 1, 1, 0, at_end);
+    refused_set("set\t0\n", 2, 1, 2, at_end);
+    refused_set("set\t3\nflow\t10\t8\t0\t1\t1\t2\tx\n", 1, 2, 8, at_end);
+    refused_set("set\t3\nflow\t10\t8\t0\t1\t1\t2\t2", 1, 2, 0, at_end);
+    refused_set("set\t3\nflow\t10\t8\t0\t1\t1\t2\t2\n", 8, 2, 8, at_end);
+    refused_set("set\t1\nflow\t10\t3\t5\t2\t1\t2\t3\n", 9, 2, 0, at_end);
+    refused_set(P3, REMBASUK_NOT_ADMITTED, 0, 0, at_end);
     refused_set("set\t15\nflow\t65535\t1\t3\t1\t1\t2\nflow\t10\t1\t0\t1\t3\t4\nflow\t10\t1\t0\t1\t5\t6\nflow\t10\t1\t0\t1\t7\t8\nflow\t10\t1\t0\t1\t9\t10\n",
-                REMBASUK_NOT_ADMITTED, 0, at_end);
-    refused_set("set\t3\nflow\t65535\t400\t5\t1\t1\t2\t3\nflow\t2\t2\t0\t1\t8\t9\n", REMBASUK_LATE_START, 0, at_end);
-    refused_set("set\t3\nflow\t10\t8\t0\t1\t1\t2\t3\nflow\t20\t20\t1\t1\t4\t2\t5\n", REMBASUK_LATE_START, 0, at_end);
-    refused_set("set\t3\nflow\t65535\t400\t0\t1\t1\t2\t3\nflow\t2\t2\t0\t1\t8\t9\n", REMBASUK_LONG_HYPER_PERIOD, 0, at_end);
-    refused_set("set\t3\nflow\t32769\t32769\t0\t1\t1\t2\nflow\t2\t2\t0\t1\t8\t9\n", REMBASUK_LONG_HYPER_PERIOD, 0, at_end);
+                REMBASUK_NOT_ADMITTED, 0, 0, at_end);
+    refused_set("set\t3\nflow\t65535\t400\t5\t1\t1\t2\t3\nflow\t2\t2\t0\t1\t8\t9\n", REMBASUK_LATE_START, 0, 0, at_end);
+    refused_set("set\t3\nflow\t10\t8\t0\t1\t1\t2\t3\nflow\t20\t20\t1\t1\t4\t2\t5\n", REMBASUK_LATE_START, 0, 0, at_end);
+    refused_set("set\t3\nflow\t65535\t400\t0\t1\t1\t2\t3\nflow\t2\t2\t0\t1\t8\t9\n", REMBASUK_LONG_HYPER_PERIOD, 0, 0, at_end);
+    refused_set("set\t3\nflow\t32769\t32769\t0\t1\t1\t2\nflow\t2\t2\t0\t1\t8\t9\n", REMBASUK_LONG_HYPER_PERIOD, 0, 0, at_end);
 }
 
 /* Lines that are refused with 1 at this line, whatever the room. */
@@ -171,7 +174,7 @@ static void refused_lines(const char *lines, size_t line, int at_end)
     uint16_t table[64];
     size_t room;
     for (room = 0; room < 64; room += 7) {
-        rembasuk_table_answer a = read_lines(lines, strlen(lines), table, room, at_end);
+        rembasuk_rows_answer a = read_lines(lines, strlen(lines), table, room, at_end);
         CHECK(a.refusal == REMBASUK_BAD_FORM && a.line == line);
     }
 }
@@ -216,11 +219,11 @@ static void channels(void)
 static void empty_buffers(void)
 {
     rembasuk_superframe_answer a = rembasuk_superframe((const uint8_t *)"set\t1\n", 6, NULL, 0);
-    rembasuk_slot_answer w = rembasuk_table_write(NULL, 0, NULL, 0);
-    rembasuk_table_answer r = rembasuk_table_read(NULL, 0, NULL, 0);
+    rembasuk_lines_answer w = rembasuk_table_write(NULL, 0, NULL, 0);
+    rembasuk_rows_answer r = rembasuk_table_read(NULL, 0, NULL, 0);
     CHECK(a.refusal == 0 && a.hyper == 1 && a.numbers == 0);
     a = rembasuk_superframe(NULL, 0, NULL, 0);
-    CHECK(a.refusal == 1 && a.line == 1 && a.hyper == 0 && rembasuk_superframe_size(NULL, 0).refusal == 1);
+    CHECK(a.refusal == 1 && a.line == 1 && a.field == 0 && a.hyper == 0 && rembasuk_superframe_size(NULL, 0).refusal == 1);
     CHECK(w.refusal == 0 && w.length == 0 && r.refusal == 0 && r.numbers == 0);
     CHECK(rembasuk_superframe((const uint8_t *)P1, strlen(P1), NULL, 0).refusal == 10);
     CHECK(rembasuk_table_read((const uint8_t *)P1_LINES, strlen(P1_LINES), NULL, 0).refusal == 10);
@@ -235,7 +238,7 @@ static void long_tables(int at_end)
     uint16_t *table = malloc(2 * numbers), *again = malloc(2 * numbers);
     char *lines = malloc(6 * numbers);
     rembasuk_superframe_answer a;
-    rembasuk_slot_answer w;
+    rembasuk_lines_answer w;
     int k;
     if (table == NULL || again == NULL || lines == NULL) {
         exit(2);

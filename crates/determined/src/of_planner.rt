@@ -1,6 +1,8 @@
 // What C calls, each called twice.
 ghost use mathlib.Core.Path.{_≡_};
 use crate::two::TwoBoundsAnswer;
+use crate::two::TwoLinesAnswer;
+use crate::two::TwoRowsAnswer;
 use crate::two::TwoSlotAnswer;
 use crate::two::TwoSuperframeAnswer;
 use crate::two::TwoTableAnswer;
@@ -92,20 +94,20 @@ pub fn rembasuk_superframe(text: &[u8], x: &mut [u16], y: &mut [u16]) -> TwoSupe
     TwoSuperframeAnswer(a, b)
 }
 
-pub fn rembasuk_table_write(table: &[u16], x: &mut [u8], y: &mut [u8]) -> TwoSlotAnswer
+pub fn rembasuk_table_write(table: &[u16], x: &mut [u8], y: &mut [u8]) -> TwoLinesAnswer
     ensures { λ r. ⌜ ((now (x .entry) ≡ now (y .entry)) → ((r .0 ≡ r .1) × (now (x .exit) ≡ now (y .exit)))) ⌝ }
 {
     let a = planner::rembasuk_table_write(table, x);
     let b = planner::rembasuk_table_write(table, y);
-    TwoSlotAnswer(a, b)
+    TwoLinesAnswer(a, b)
 }
 
-pub fn rembasuk_table_read(lines: &[u8], x: &mut [u16], y: &mut [u16]) -> TwoTableAnswer
+pub fn rembasuk_table_read(lines: &[u8], x: &mut [u16], y: &mut [u16]) -> TwoRowsAnswer
     ensures { λ r. ⌜ ((now (x .entry) ≡ now (y .entry)) → ((r .0 ≡ r .1) × (now (x .exit) ≡ now (y .exit)))) ⌝ }
 {
     let a = planner::rembasuk_table_read(lines, x);
     let b = planner::rembasuk_table_read(lines, y);
-    TwoTableAnswer(a, b)
+    TwoRowsAnswer(a, b)
 }
 
 pub fn rembasuk_channel(map: u32, slot: u32, offset: u32) -> TwoU32

@@ -52,11 +52,18 @@ pub fn put_line(x: &mut [u8], y: &mut [u8], at: usize, word: &[u8], numbers: &[u
     TwoUsize(a, b)
 }
 
-pub fn put_refused(x: &mut [u8], y: &mut [u8], at: usize, refusal: u32, line: u32) -> TwoUsize
+pub fn put_refused(
+    x: &mut [u8],
+    y: &mut [u8],
+    at: usize,
+    refusal: u32,
+    line: u32,
+    field: u32,
+) -> TwoUsize
     ensures { λ r. ⌜ ((now (x .entry) ≡ now (y .entry)) → ((r .0 ≡ r .1) × (now (x .exit) ≡ now (y .exit)))) ⌝ }
 {
-    let a = text::put_refused(x, at, refusal, line);
-    let b = text::put_refused(y, at, refusal, line);
+    let a = text::put_refused(x, at, refusal, line, field);
+    let b = text::put_refused(y, at, refusal, line, field);
     TwoUsize(a, b)
 }
 

@@ -14,6 +14,7 @@ use crate::two::TwoState;
 use crate::two::TwoTabled;
 use crate::two::TwoU16;
 use crate::two::TwoU32;
+use crate::two::TwoUsize;
 use crate::two::TwoVerdict;
 use crate::two::TwoWritten;
 use model::Bounds;
@@ -171,6 +172,14 @@ pub fn flow_fault(
     let a = rules::flow_fault(k, period, deadline, tries, nodes, route);
     let b = rules::flow_fault(k, period, deadline, tries, nodes, route);
     TwoRefusal(a, b)
+}
+
+pub fn repeat_at(route: [u16; Flow::MOST_NODES], n: usize) -> TwoUsize
+    ensures { λ r. ⌜ r .0 ≡ r .1 ⌝ }
+{
+    let a = rules::repeat_at(route, n);
+    let b = rules::repeat_at(route, n);
+    TwoUsize(a, b)
 }
 
 pub fn record_fault(s: FlowSet) -> TwoFault

@@ -7,9 +7,11 @@ use model::Fault;
 use model::Flow;
 use model::FlowSet;
 use model::Limits;
+use model::LinesAnswer;
 use model::Ran;
 use model::Reading;
 use model::Refusal;
+use model::RowsAnswer;
 use model::Slot;
 use model::SlotAnswer;
 use model::Span;
@@ -86,5 +88,9 @@ pub struct TwoProbeReading(pub ProbeReading, pub ProbeReading);
 pub struct TwoTabled(pub Tabled, pub Tabled);
 
 pub struct TwoSuperframeAnswer(pub SuperframeAnswer, pub SuperframeAnswer);
+
+pub struct TwoLinesAnswer(pub LinesAnswer, pub LinesAnswer);
+
+pub struct TwoRowsAnswer(pub RowsAnswer, pub RowsAnswer);
 
 pub struct TwoPart(pub Part, pub Part);

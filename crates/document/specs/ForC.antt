@@ -7,7 +7,7 @@ use Rattle.model.specs.declared.kinds.FlowSet.{FlowSet}
 use Rattle.model.specs.declared.answers.{Fault.{Fault}, Refusal.the-variants.{NoRoom}}
 use Rattle.model.specs.declared.answers.{Reading.{Reading}, Verdict.{Verdict}, Bounds.{Bounds}, Written.{Written}}
 use Rattle.model.specs.declared.answers.{VerdictAnswer.{VerdictAnswer}, BoundsAnswer.{BoundsAnswer}, SlotAnswer.{SlotAnswer}, TableAnswer.{TableAnswer}}
-use Rattle.model.specs.declared.answers.{SuperframeAnswer.{SuperframeAnswer}, Tabled.{Tabled}}
+use Rattle.model.specs.declared.answers.{SuperframeAnswer.{SuperframeAnswer}, LinesAnswer.{LinesAnswer}, RowsAnswer.{RowsAnswer}, Tabled.{Tabled}}
 use Rattle.model.specs.{Refusals.{good, refusalNumber, faultAt, noFault, orElse, refusedVerdict, refusedBounds, refusedTable}, Sums.{bit}, Sets.{used}}
 use Rattle.document.specs.{Reader.{readText}, Delay.{verdictOf, boundsOf}, Program.{slotLines, slotFault}}
 use Rattle.document.specs.{Machine.{radioChannel}, Superframe.{sizeAnswer, superframeAnswer, superframeInto, writeTableAnswer, readTableAnswer}}
@@ -18,6 +18,7 @@ verdictNumbers v =
     record {
       refusal = refusalNumber (v .fault .refusal);
       line = v .fault .line;
+      field = v .fault .field;
       basic = bit (v .basic);
       tightened = bit (v .tightened);
       rounds = v .rounds;
@@ -28,6 +29,7 @@ boundsNumbers b =
     record {
       refusal = refusalNumber (b .fault .refusal);
       line = b .fault .line;
+      field = b .fault .field;
       work = b .work;
       basic = b .basic;
       tightened = b .tightened;
@@ -36,10 +38,10 @@ boundsNumbers b =
     }
 
 abbrev pub slotNumbers : Written → SlotAnswer
-slotNumbers w = record { refusal = refusalNumber (w .fault .refusal); line = w .fault .line; length = w .length }
+slotNumbers w = record { refusal = refusalNumber (w .fault .refusal); line = w .fault .line; field = w .fault .field; length = w .length }
 
 abbrev pub tableNumbers : Written → TableAnswer
-tableNumbers w = record { refusal = refusalNumber (w .fault .refusal); line = w .fault .line; numbers = w .length }
+tableNumbers w = record { refusal = refusalNumber (w .fault .refusal); line = w .fault .line; field = w .fault .field; numbers = w .length }
 
 -- a set handed over as text is read before anything else is tested, with the reader's refusals
 unfoldable pub verdictOfReading : Reading → Verdict
@@ -96,12 +98,21 @@ slotForC text state room = slotNumbers (slotAnswer (readText text) state room)
 unfoldable pub allBoundsForC : List ℕ → ℕ → TableAnswer
 allBoundsForC text room = tableNumbers (tableAnswer (readText text) room)
 
--- request 2: a table's answer in numbers, with its slots or without them
+-- request 2: a superframe's answer in numbers; that of a table's lines written, and read, which name no field
 abbrev pub superframeNumbers : Tabled → SuperframeAnswer
 superframeNumbers a =
-    record { refusal = refusalNumber (a .fault .refusal); line = a .fault .line; hyper = a .hyper; numbers = a .numbers }
+    record {
+      refusal = refusalNumber (a .fault .refusal);
+      line = a .fault .line;
+      field = a .fault .field;
+      hyper = a .hyper;
+      numbers = a .numbers;
+    }
 
-abbrev pub readNumbers : Tabled → TableAnswer
+abbrev pub linesNumbers : Written → LinesAnswer
+linesNumbers w = record { refusal = refusalNumber (w .fault .refusal); line = w .fault .line; length = w .length }
+
+abbrev pub readNumbers : Tabled → RowsAnswer
 readNumbers a = record { refusal = refusalNumber (a .fault .refusal); line = a .fault .line; numbers = a .numbers }
 
 -- the superframe of the set that was read, or the reader's refusal
@@ -122,10 +133,10 @@ sizeForC text = superframeNumbers (sizeOfReading (readText text))
 unfoldable pub superframeForC : List ℕ → ℕ → SuperframeAnswer
 superframeForC text room = superframeNumbers (superframeOfReading (readText text) room)
 
-unfoldable pub writeTableForC : List ℕ → ℕ → SlotAnswer
-writeTableForC table room = slotNumbers (writeTableAnswer table room)
+unfoldable pub writeTableForC : List ℕ → ℕ → LinesAnswer
+writeTableForC table room = linesNumbers (writeTableAnswer table room)
 
-unfoldable pub readTableForC : List ℕ → ℕ → TableAnswer
+unfoldable pub readTableForC : List ℕ → ℕ → RowsAnswer
 readTableForC lines room = readNumbers (readTableAnswer lines room)
 
 -- the radio channel of an offset in a slot; 0 for a map without channels, and for a number that is no map

@@ -1,8 +1,10 @@
 pub mod Text
+pub mod BadField
 pub mod Reader
 pub mod Delay
 pub mod Machine
 pub mod Program
 pub mod Superframe
 pub mod ForC
+pub mod FieldNamed
 pub mod Table

@@ -58,12 +58,12 @@ slotBuffer r state buffer =
     (slotLines (used (r .set)) state ++ drop (length (slotLines (used (r .set)) state)) buffer)
     buffer
 
--- `refused`: number, line
+-- `refused`: number, line, field
 abbrev pub refusedWord : List ℕ
 refusedWord = 114 ∷ 101 ∷ 102 ∷ 117 ∷ 115 ∷ 101 ∷ 100 ∷ []
 
 abbrev pub refusedLine : Fault → List ℕ
-refusedLine f = lineOf refusedWord (refusalNumber (f .refusal) ∷ f .line ∷ [])
+refusedLine f = lineOf refusedWord (refusalNumber (f .refusal) ∷ f .line ∷ f .field ∷ [])
 
 -- `verdict`: basic, tightened (1 admits), rounds
 abbrev pub verdictWord : List ℕ

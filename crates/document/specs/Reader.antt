@@ -1,12 +1,13 @@
--- Document 01, "Refusal numbers" 1 to 9, the reader, the record check and the writer.
+-- Document 01, "Refusal numbers" 1 to 9, the reader, the record check and the writer. What request 3 adds to a refusal of the reader, the
+-- field, is computed beside the refusal: no rule asks for it.
 use mathlib.Core.{Path.{_≡_}, Bool.{Bool, true, false, not, _&&_, _||_, cond}, List.{List, [], _∷_, _++_}}
 use Prim.Native.Nat.{ℕ, zero, suc, _+_, _-_, _*_, _≤_, _<_}
 use lib.{Dec.{leb, ltb, eqb}, ListN.{length, getD, take, drop, set, replicate}}
 use Rattle.model.specs.declared.kinds.{Flow.{Flow}, FlowSet.{FlowSet}}
 use Rattle.model.specs.declared.answers.{Fault.{Fault}, Reading.{Reading}, Written.{Written}, Refusal.{Refusal}}
 use Rattle.model.specs.declared.answers.Refusal.the-variants.{Nothing, BadForm, NoChannel, TooManyFlows, BadPeriod, BadDeadline, BadTries, BadRoute, EqualNeighbours, TooMuchWork, NoRoom}
-use Rattle.model.specs.{Limits.{mostFlows, mostNodes}, Refusals.{good, faultAt, noFault, orElse}, Sets.{flowAt, blankFlow, blankSet, used, SameSet}}
-use Rattle.document.specs.Text.{setWord, flowWord, lines, wellFormed, numbersOf, lineOf}
+use Rattle.model.specs.{Limits.{mostFlows, mostNodes}, Refusals.{good, faultIn, faultAt, noFault, orElse}, Sets.{flowAt, blankFlow, blankSet, used, SameSet}}
+use Rattle.document.specs.{Text.{setWord, flowWord, lines, wellFormed, numbersOf, lineOf}, BadField.{breaksFirst, breaksFlow, badField, fieldOf}}
 
 -- rule 2
 abbrev pub mapFault : ℕ → Refusal
@@ -73,9 +74,16 @@ flowLineFault k l =
     (flowFault k (getD (numbersOf l) 0 0) (getD (numbersOf l) 1 0) (getD (numbersOf l) 3 0) (length (numbersOf l) - 4) (drop 4 (numbersOf l)))
     BadForm
 
+-- request 3: the field that is bad, in the first line and in the line of flow number k
+unfoldable pub firstLineField : List ℕ → ℕ
+firstLineField l = fieldOf (firstLineFault l) (badField breaksFirst l) 0
+
+unfoldable pub flowLineField : ℕ → List ℕ → ℕ
+flowLineField k l = fieldOf (flowLineFault k l) (badField breaksFlow l) (repeatAt (drop 4 (numbersOf l)))
+
 -- a refused reading returns the blank set
-abbrev pub refusedReading : Refusal → ℕ → Reading
-refusedReading r n = record { fault = faultAt r n; set = blankSet }
+abbrev pub refusedReading : Refusal → ℕ → ℕ → Reading
+refusedReading r n f = record { fault = faultIn r n f; set = blankSet }
 
 abbrev pub accepted : FlowSet → Reading
 accepted s = record { fault = noFault; set = s }
@@ -86,7 +94,7 @@ readFlows s [] = accepted s
 readFlows s (l ∷ ls) =
     elim (good (flowLineFault (s .count) l)) [
       | true ↦ readFlows (withFlow s (flowOf (numbersOf l))) ls
-      | false ↦ refusedReading (flowLineFault (s .count) l) (s .count + 2)
+      | false ↦ refusedReading (flowLineFault (s .count) l) (s .count + 2) (flowLineField (s .count) l)
     ]
 
 -- the set of the first line
@@ -94,11 +102,11 @@ unfoldable pub setOf : List ℕ → FlowSet
 setOf l = record { map = record { 0 = getD (numbersOf l) 0 0 }; count = 0; flows = blankSet .flows }
 
 unfoldable pub readLines : List (List ℕ) → Reading
-readLines [] = refusedReading BadForm 1
+readLines [] = refusedReading BadForm 1 0
 readLines (l ∷ ls) =
     elim (good (firstLineFault l)) [
       | true ↦ readFlows (setOf l) ls
-      | false ↦ refusedReading (firstLineFault l) 1
+      | false ↦ refusedReading (firstLineFault l) 1 (firstLineField l)
     ]
 
 -- the reader's answer to a text

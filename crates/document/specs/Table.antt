@@ -1,6 +1,6 @@
 -- Document 01, "Sets on either side of a line": P1 to P11, with all that the document says of each, in one table under one theorem; P11 and the
 -- rows after it as request 1 has them; and rows of our own, for what none of these says: starts, several tries beside another flow, offsets,
--- deliveries, the refusals that are only run, a state's bytes, buffers, what C is answered; then the sets of request 2.
+-- deliveries, the refusals that are only run, a state's bytes, buffers, what C is answered; then the sets of request 2 and the texts of request 3.
 -- The sets are their texts, run through the reader's definition; the checker computes the rest.
 use mathlib.Core.{Bool.{Bool, true, false, not, _&&_}, List.{List, [], _∷_, _++_}}
 use Prim.Native.{Char.{code}, Nat.{ℕ, zero, suc, _+_}}
@@ -9,10 +9,11 @@ use lib.{Count.{ones, onesIn}, Dec.{eqb, T}, IntN.{ℤ, pos, negsuc}, ListN.{len
 use Rattle.model.specs.declared.kinds.FlowSet.{FlowSet}
 use Rattle.model.specs.declared.answers.{Fault.{Fault}, Reading.{Reading}, Send.{Send}, Delivery.{Delivery}, Stepped.{Stepped}, Written.{Written}}
 use Rattle.model.specs.declared.answers.{VerdictAnswer.{VerdictAnswer}, BoundsAnswer.{BoundsAnswer}, SlotAnswer.{SlotAnswer}, TableAnswer.{TableAnswer}}
-use Rattle.model.specs.declared.answers.SuperframeAnswer.{SuperframeAnswer}
+use Rattle.model.specs.declared.answers.{SuperframeAnswer.{SuperframeAnswer}, LinesAnswer.{LinesAnswer}, RowsAnswer.{RowsAnswer}}
 use Rattle.model.specs.{Refusals.{refusalNumber}, Sums.{sumTo, anyTo, allTo}, Sets.{flowAt, used, anyOf, meet, listTo, filterTo}}
 use Rattle.document.specs.Text.{same, lines, ended, fields, allDigits, valueFrom, isNumber, allNumbers, valuesOf, wellFormed, numbersOf, decimalIn, decimal, tabbed, decimals, lineOf}
-use Rattle.document.specs.Reader.{repeatAt, flowFault, flowsFault, recordFault, flowOf, withFlow, firstLineFault, flowLineFault, readFlows, setOf, readLines, readText, flowLines, textOf, pad, writeFault, writeAnswer, writeInto}
+use Rattle.document.specs.Reader.{repeatAt, flowFault, flowsFault, recordFault, flowOf, withFlow, firstLineFault, flowLineFault, firstLineField, flowLineField, readFlows, setOf, readLines, readText, flowLines, textOf, pad, writeFault, writeAnswer, writeInto}
+use Rattle.document.specs.BadField.{firstBreaking}
 use Rattle.document.specs.Delay.{conflictWork, share, overOthers, boundWith, basicBound, valueAt, deadlines, lowered, roundTo, roundsIn, reached, tightBound, admits, verdictOf, boundsFault, boundsOf}
 use Rattle.document.specs.Machine.{ready, nextCount, insert, ordered, place, channelsTo, radioChannel, sendOf, sendsFrom, sendsAt, deliveriesOf, droppedAt, badState, stepFault, stepOf, runOf, countWith, deliveredWith, droppedWith, nextWith, placedWith, runWith, stepWith}
 use Rattle.document.specs.Program.{stateLength, stateBytes, stateOf, sendNumbers, sendLines, slotLines, slotFault, slotState, slotBuffer, boundLines, runLines, planOf, planText}
@@ -32,7 +33,7 @@ bytesOf (l ∷ ls) = bytes l ++ bytesOf ls
 
 -- what the document says of a set
 pub data Claim : Type 0 where
-  refused : ℕ → ℕ → Claim  -- refusal number, line
+  refused : ℕ → ℕ → ℕ → Claim  -- refusal number, line, field
   written : Claim  -- read and written again it has the same bytes
   basics : List ℕ → Claim  -- the basic bounds
   tights : List ℕ → Claim  -- the tightened bounds
@@ -43,25 +44,25 @@ pub data Claim : Type 0 where
   flowsIn : ℕ → List ℕ → Claim  -- a slot of the run, and the flows that it sends
   drops : ℕ → List ℕ → Claim  -- a slot of the run, and the flows that it drops
   plan : List string.String → Claim  -- what the plan program prints, line by line
-  verdictC : List ℕ → Claim  -- what C is answered: refusal, line, basic, tightened, rounds
-  boundsC : ℕ → List ℕ → ℤ → Claim  -- flow; refusal, line, C, basic, tightened, deadline; margin
-  -- one slot for C: the state's first bytes, before zeros; the buffer; refusal, line, length; the state and the buffer after it
+  verdictC : List ℕ → Claim  -- what C is answered: refusal, line, field, basic, tightened, rounds
+  boundsC : ℕ → List ℕ → ℤ → Claim  -- flow; refusal, line, field, C, basic, tightened, deadline; margin
+  -- one slot for C: the state's first bytes, before zeros; the buffer; refusal, line, field, length; the state and the buffer after it
   slotC : List ℕ → string.String → List ℕ → List ℕ → string.String → Claim
-  -- the bounds of all flows for C: the table; refusal, line, numbers; the table after it
+  -- the bounds of all flows for C: the table; refusal, line, field, numbers; the table after it
   tableC : List ℕ → List ℕ → List ℕ → Claim
-  badLength : ℕ → List ℕ → Claim  -- a state of this many zeros, and a buffer of none: refusal, line, length
+  badLength : ℕ → List ℕ → Claim  -- a state of this many zeros, and a buffer of none: refusal, line, field, length
   -- a slot of the run: its sends with their offsets, before the channel; flow and delay of its deliveries; its drops
   report : ℕ → List (List ℕ) → List (List ℕ) → List ℕ → Claim
-  lineOfFlow : ℕ → string.String → ℕ → Claim  -- a flow's number, its line and the refusal of it
-  copies : ℕ → ℕ → ℕ → Claim  -- a record of this many copies of flow 0: refusal number, line
-  writes : string.String → List ℕ → string.String → Claim  -- the buffer; refusal, line, length; the buffer after it
+  lineOfFlow : ℕ → string.String → ℕ → ℕ → Claim  -- a flow's number, its line, the refusal of it and the field
+  copies : ℕ → ℕ → ℕ → Claim  -- a record of this many copies of flow 0: refusal number, line; no field
+  writes : string.String → List ℕ → string.String → Claim  -- the buffer; refusal, line, field, length; the buffer after it
   planOfZeros : ℕ → string.String → Claim  -- what the program prints for this many bytes 0
   loads : ℕ → List (List ℕ) → Claim  -- the hyper-period, and the rows of the superframe
   loadsTo : ℕ → List (List ℕ) → Claim  -- the rows of the superframe's first slots
   loading : ℕ → ℕ → Claim  -- the refusal before that for room, and the hyper-period
-  -- the superframe for C: the table; refusal, line, hyper-period, numbers; the table after it
+  -- the superframe for C: the table; refusal, line, field, hyper-period, numbers; the table after it
   loadC : List ℕ → List ℕ → List ℕ → Claim
-  sizeC : List ℕ → Claim  -- refusal, line, hyper-period, numbers
+  sizeC : List ℕ → Claim  -- refusal, line, field, hyper-period, numbers
   frame : List string.String → Claim  -- what the program `superframe` prints, line by line
   channelC : ℕ → ℕ → ℕ → Claim  -- slot, offset, radio channel
   channelOf : ℕ → ℕ → Claim  -- the radio channel of slot 0 and offset 0 with this number as the map
@@ -89,22 +90,28 @@ sendRowsTo s zero = []
 sendRowsTo s (suc n) = sendRowsTo s n ++ rows (sendsAt s (runOf s n .last))
 
 verdictRow : VerdictAnswer → List ℕ
-verdictRow v = v .refusal ∷ v .line ∷ v .basic ∷ v .tightened ∷ v .rounds ∷ []
+verdictRow v = v .refusal ∷ v .line ∷ v .field ∷ v .basic ∷ v .tightened ∷ v .rounds ∷ []
 
 boundsAnswerRow : BoundsAnswer → List ℕ
-boundsAnswerRow b = b .refusal ∷ b .line ∷ b .work ∷ b .basic ∷ b .tightened ∷ b .deadline ∷ []
+boundsAnswerRow b = b .refusal ∷ b .line ∷ b .field ∷ b .work ∷ b .basic ∷ b .tightened ∷ b .deadline ∷ []
 
 writtenRow : Written → List ℕ
-writtenRow w = refusalNumber (w .fault .refusal) ∷ w .fault .line ∷ w .length ∷ []
+writtenRow w = refusalNumber (w .fault .refusal) ∷ w .fault .line ∷ w .fault .field ∷ w .length ∷ []
 
 slotRow : SlotAnswer → List ℕ
-slotRow a = a .refusal ∷ a .line ∷ a .length ∷ []
+slotRow a = a .refusal ∷ a .line ∷ a .field ∷ a .length ∷ []
 
 tableRow : TableAnswer → List ℕ
-tableRow a = a .refusal ∷ a .line ∷ a .numbers ∷ []
+tableRow a = a .refusal ∷ a .line ∷ a .field ∷ a .numbers ∷ []
 
 frameRow : SuperframeAnswer → List ℕ
-frameRow a = a .refusal ∷ a .line ∷ a .hyper ∷ a .numbers ∷ []
+frameRow a = a .refusal ∷ a .line ∷ a .field ∷ a .hyper ∷ a .numbers ∷ []
+
+linesRow : LinesAnswer → List ℕ
+linesRow a = a .refusal ∷ a .line ∷ a .length ∷ []
+
+rowsRow : RowsAnswer → List ℕ
+rowsRow a = a .refusal ∷ a .line ∷ a .numbers ∷ []
 
 offsetRows : List Send → List (List ℕ)
 offsetRows [] = []
@@ -131,11 +138,11 @@ sameSigned (pos m) (negsuc n) = false
 sameSigned (negsuc m) (pos n) = false
 sameSigned (negsuc m) (negsuc n) = eqb m n
 
-faultIs : Fault → ℕ → ℕ → Bool
-faultIs f n l = eqb (refusalNumber (f .refusal)) n && eqb (f .line) l
+faultIs : Fault → ℕ → ℕ → ℕ → Bool
+faultIs f n l d = eqb (refusalNumber (f .refusal)) n && eqb (f .line) l && eqb (f .field) d
 
 holds : List ℕ → Reading → FlowSet → Claim → Bool
-holds text r s (refused n l) = faultIs (r .fault) n l
+holds text r s (refused n l d) = faultIs (r .fault) n l d
 holds text r s written = same (textOf s) text
 holds text r s (basics bs) = same (listTo (λ k. boundsOf s k .basic) (s .count)) bs
 holds text r s (tights bs) = same (listTo (λ k. boundsOf s k .tightened) (s .count)) bs
@@ -155,20 +162,20 @@ holds text r s (slotC st b ns st' b') =
 holds text r s (tableC b ns b') = same (tableRow (allBoundsForC text (length b))) ns && same (tableAfter r b) b'
 holds text r s (badLength n ns) = same (slotRow (slotForC text (replicate n 0) 0)) ns
 holds text r s (report t xs ds ks) = reportHolds (stepOf s (runOf s t .last)) xs ds ks
-holds text r s (lineOfFlow k l n) = eqb (refusalNumber (flowLineFault k (bytes l))) n
-holds text r s (copies n f l) = faultIs (recordFault (used (record { map = s .map; count = n; flows = replicate n (flowAt s 0) }))) f l
+holds text r s (lineOfFlow k l n d) = eqb (refusalNumber (flowLineFault k (bytes l))) n && eqb (flowLineField k (bytes l)) d
+holds text r s (copies n f l) = faultIs (recordFault (used (record { map = s .map; count = n; flows = replicate n (flowAt s 0) }))) f l 0
 holds text r s (writes b ns b') = same (writtenRow (writeAnswer s (length (bytes b)))) ns && same (writeInto s (bytes b)) (bytes b')
 holds text r s (planOfZeros n p) = same (planText (replicate n 0)) (bytes p)
 holds text r s (loads h xs) = eqb (hyper s) h && sameRows (superframe s) xs
 holds text r s (loadsTo n xs) = sameRows (rowsTo s n) xs
-holds text r s (loading n h) = faultIs (sizeFault s) n 0 && eqb (hyper s) h
+holds text r s (loading n h) = faultIs (sizeFault s) n 0 0 && eqb (hyper s) h
 holds text r s (loadC b ns b') = same (frameRow (superframeForC text (length b))) ns && same (superframeAfter r b) b'
 holds text r s (sizeC ns) = same (frameRow (sizeForC text)) ns
 holds text r s (frame p) = same (superframeText text) (bytesOf p)
 holds text r s (channelC t o c) = eqb (channelForC (s .map .0) t o) c
 holds text r s (channelOf m c) = eqb (channelForC m 0 0) c
-holds text r s (linesC t b ns b') = same (slotRow (writeTableForC t (length (bytes b)))) ns && same (writeTableInto t (bytes b)) (bytes b')
-holds text r s (rowsC l b ns b') = same (tableRow (readTableForC (bytes l) (length b))) ns && same (readTableInto (bytes l) b) b'
+holds text r s (linesC t b ns b') = same (linesRow (writeTableForC t (length (bytes b)))) ns && same (writeTableInto t (bytes b)) (bytes b')
+holds text r s (rowsC l b ns b') = same (rowsRow (readTableForC (bytes l) (length b))) ns && same (readTableInto (bytes l) b) b'
 
 allHold : List ℕ → Reading → List Claim → Bool
 allHold text r [] = true
@@ -189,7 +196,7 @@ every (p ∷ ps) = allHold (bytes (p .text)) (readText (bytes (p .text))) (p .cl
 pub points : List Point
 points =
     point "set\t3\nflow\t10\t8\t0\t1\t1\t2\t3\nflow\t20\t20\t0\t1\t4\t2\t5\n"
-    (refused 0 0
+    (refused 0 0 0
     ∷ written
     ∷ basics (4 ∷ 6 ∷ [])
     ∷ tights (2 ∷ 6 ∷ [])
@@ -221,7 +228,7 @@ points =
     ∷ []
     )
     ∷ point "set\t3\nflow\t10\t3\t0\t1\t1\t2\t3\nflow\t20\t20\t0\t1\t4\t2\t5\n"
-    (refused 0 0
+    (refused 0 0 0
     ∷ written
     ∷ basics (4 ∷ 6 ∷ [])
     ∷ tights (2 ∷ 6 ∷ [])
@@ -229,7 +236,7 @@ points =
     ∷ []
     )
     ∷ point "set\t15\nflow\t10\t1\t0\t1\t1\t2\nflow\t10\t1\t0\t1\t3\t4\nflow\t10\t1\t0\t1\t5\t6\nflow\t10\t1\t0\t1\t7\t8\nflow\t10\t1\t0\t1\t9\t10\n"
-    (refused 0 0
+    (refused 0 0 0
     ∷ written
     ∷ basics (2 ∷ 2 ∷ 2 ∷ 2 ∷ 2 ∷ [])
     ∷ tights (2 ∷ 2 ∷ 2 ∷ 2 ∷ 2 ∷ [])
@@ -244,7 +251,7 @@ points =
     ∷ []
     )
     ∷ point "set\t15\nflow\t10\t1\t0\t1\t1\t2\nflow\t10\t1\t0\t1\t3\t4\nflow\t10\t1\t0\t1\t5\t6\nflow\t10\t1\t0\t1\t7\t8\n"
-    (refused 0 0
+    (refused 0 0 0
     ∷ written
     ∷ basics (1 ∷ 1 ∷ 1 ∷ 1 ∷ [])
     ∷ tights (1 ∷ 1 ∷ 1 ∷ 1 ∷ [])
@@ -252,7 +259,7 @@ points =
     ∷ []
     )
     ∷ point "set\t1\nflow\t10\t2\t0\t1\t1\t2\nflow\t10\t2\t0\t1\t3\t4\n"
-    (refused 0 0
+    (refused 0 0 0
     ∷ written
     ∷ basics (2 ∷ 2 ∷ [])
     ∷ tights (2 ∷ 2 ∷ [])
@@ -262,7 +269,7 @@ points =
     ∷ []
     )
     ∷ point "set\t1\nflow\t10\t2\t0\t1\t1\t2\nflow\t10\t2\t0\t1\t3\t4\nflow\t10\t2\t0\t1\t5\t6\n"
-    (refused 0 0
+    (refused 0 0 0
     ∷ written
     ∷ basics (3 ∷ 3 ∷ 3 ∷ [])
     ∷ tights (3 ∷ 3 ∷ 3 ∷ [])
@@ -270,7 +277,7 @@ points =
     ∷ []
     )
     ∷ point "set\t3\nflow\t10\t10\t0\t1\t1\t2\nflow\t10\t10\t0\t1\t2\t3\nflow\t10\t10\t0\t1\t4\t5\n"
-    (refused 0 0
+    (refused 0 0 0
     ∷ written
     ∷ basics (2 ∷ 2 ∷ 2 ∷ [])
     ∷ tights (2 ∷ 2 ∷ 2 ∷ [])
@@ -280,7 +287,7 @@ points =
     ∷ []
     )
     ∷ point "set\t1\nflow\t10\t4\t0\t2\t1\t2\t3\n"
-    (refused 0 0
+    (refused 0 0 0
     ∷ written
     ∷ sends 4
     ((0 ∷ 0 ∷ 1 ∷ 2 ∷ 0 ∷ 11 ∷ [])
@@ -292,15 +299,15 @@ points =
     ∷ []
     )
     ∷ point "set\t1\nflow\t10\t3\t0\t2\t1\t2\t3\n"
-    (refused 9 2
+    (refused 9 2 0
     ∷ []
     )
     ∷ point "set\t0\n"
-    (refused 2 1
+    (refused 2 1 2
     ∷ []
     )
     ∷ point "set\t1\nflow\t10\t4\t0\t2\t1\t2\t1\n"
-    (refused 0 0
+    (refused 0 0 0
     ∷ written
     ∷ basics (4 ∷ [])
     ∷ tights (4 ∷ [])
@@ -314,12 +321,12 @@ points =
     ∷ (3 ∷ 0 ∷ 2 ∷ 1 ∷ 1 ∷ 11 ∷ [])
     ∷ []
     )
-    ∷ boundsC 0 (0 ∷ 0 ∷ 4 ∷ 4 ∷ 4 ∷ 4 ∷ []) (pos 0)
+    ∷ boundsC 0 (0 ∷ 0 ∷ 0 ∷ 4 ∷ 4 ∷ 4 ∷ 4 ∷ []) (pos 0)
     ∷ []
     )
     -- request 1: a loop beside another flow; a link that stands twice counts twice; 16 links between two nodes; equal neighbours, first and last
     ∷ point "set\t3\nflow\t20\t20\t0\t1\t1\t2\t3\t2\t1\nflow\t20\t20\t0\t1\t4\t2\n"
-    (refused 0 0
+    (refused 0 0 0
     ∷ written
     ∷ basics (5 ∷ 5 ∷ [])
     ∷ tights (5 ∷ 5 ∷ [])
@@ -333,12 +340,12 @@ points =
     ∷ (4 ∷ 1 ∷ 4 ∷ 2 ∷ 0 ∷ 11 ∷ [])
     ∷ []
     )
-    ∷ boundsC 0 (0 ∷ 0 ∷ 4 ∷ 5 ∷ 5 ∷ 20 ∷ []) (pos 15)
-    ∷ boundsC 1 (0 ∷ 0 ∷ 1 ∷ 5 ∷ 5 ∷ 20 ∷ []) (pos 15)
+    ∷ boundsC 0 (0 ∷ 0 ∷ 0 ∷ 4 ∷ 5 ∷ 5 ∷ 20 ∷ []) (pos 15)
+    ∷ boundsC 1 (0 ∷ 0 ∷ 0 ∷ 1 ∷ 5 ∷ 5 ∷ 20 ∷ []) (pos 15)
     ∷ []
     )
     ∷ point "set\t3\nflow\t10\t6\t0\t1\t1\t2\t1\t2\nflow\t10\t10\t0\t1\t2\t9\n"
-    (refused 0 0
+    (refused 0 0 0
     ∷ written
     ∷ basics (4 ∷ 4 ∷ [])
     ∷ tights (3 ∷ 4 ∷ [])
@@ -348,38 +355,40 @@ points =
     ∷ []
     )
     ∷ point "set\t1\nflow\t64\t64\t0\t4\t1\t2\t1\t2\t1\t2\t1\t2\t1\t2\t1\t2\t1\t2\t1\t2\t1\n"
-    (refused 0 0
+    (refused 0 0 0
     ∷ written
     ∷ verdict true true
-    ∷ boundsC 0 (0 ∷ 0 ∷ 64 ∷ 64 ∷ 64 ∷ 64 ∷ []) (pos 0)
+    ∷ boundsC 0 (0 ∷ 0 ∷ 0 ∷ 64 ∷ 64 ∷ 64 ∷ 64 ∷ []) (pos 0)
     ∷ []
     )
     ∷ point "set\t1\nflow\t10\t4\t0\t2\t1\t1\t2\n"
-    (refused 8 2
+    (refused 8 2 7
     ∷ []
     )
     ∷ point "set\t1\nflow\t10\t4\t0\t2\t1\t2\t2\n"
-    (refused 8 2
+    (refused 8 2 8
     ∷ []
     )
     -- ours: P3 and P10 as C is answered
     ∷ point "set\t15\nflow\t10\t1\t0\t1\t1\t2\nflow\t10\t1\t0\t1\t3\t4\nflow\t10\t1\t0\t1\t5\t6\nflow\t10\t1\t0\t1\t7\t8\nflow\t10\t1\t0\t1\t9\t10\n"
-    (verdictC (0 ∷ 0 ∷ 0 ∷ 0 ∷ 1 ∷ [])
-    ∷ boundsC 4 (0 ∷ 0 ∷ 1 ∷ 2 ∷ 2 ∷ 1 ∷ []) (negsuc 0)
-    ∷ boundsC 5 (13 ∷ 0 ∷ 0 ∷ 0 ∷ 0 ∷ 0 ∷ []) (pos 0)
+    (verdictC (0 ∷ 0 ∷ 0 ∷ 0 ∷ 0 ∷ 1 ∷ [])
+    ∷ boundsC 4 (0 ∷ 0 ∷ 0 ∷ 1 ∷ 2 ∷ 2 ∷ 1 ∷ []) (negsuc 0)
+    ∷ boundsC 5 (13 ∷ 0 ∷ 0 ∷ 0 ∷ 0 ∷ 0 ∷ 0 ∷ []) (pos 0)
     ∷ []
     )
     ∷ point "set\t0\n"
-    (verdictC (2 ∷ 1 ∷ 0 ∷ 0 ∷ 0 ∷ [])
-    ∷ badLength 67 (2 ∷ 1 ∷ 0 ∷ [])
-    ∷ tableC (9 ∷ []) (2 ∷ 1 ∷ 0 ∷ []) (9 ∷ [])
-    ∷ writes "......" (2 ∷ 1 ∷ 0 ∷ []) "......"
-    ∷ plan ("refused\t2\t1\n" ∷ [])
+    (verdictC (2 ∷ 1 ∷ 2 ∷ 0 ∷ 0 ∷ 0 ∷ [])
+    ∷ boundsC 0 (2 ∷ 1 ∷ 2 ∷ 0 ∷ 0 ∷ 0 ∷ 0 ∷ []) (pos 0)
+    ∷ badLength 67 (2 ∷ 1 ∷ 2 ∷ 0 ∷ [])
+    ∷ sizeC (2 ∷ 1 ∷ 2 ∷ 0 ∷ 0 ∷ [])
+    ∷ tableC (9 ∷ []) (2 ∷ 1 ∷ 2 ∷ 0 ∷ []) (9 ∷ [])
+    ∷ writes "......" (2 ∷ 1 ∷ 0 ∷ 0 ∷ []) "......"
+    ∷ plan ("refused\t2\t1\t2\n" ∷ [])
     ∷ []
     )
     -- ours: starts, a map with a gap, tries beside other flows, offsets, deliveries and their delays, a negative margin
     ∷ point "set\t5\nflow\t11\t11\t2\t2\t4\t1\t2\nflow\t9\t4\t5\t1\t1\t2\t3\nflow\t12\t6\t1\t3\t8\t9\n"
-    (refused 0 0
+    (refused 0 0 0
     ∷ written
     ∷ basics (9 ∷ 7 ∷ 6 ∷ [])
     ∷ tights (9 ∷ 5 ∷ 6 ∷ [])
@@ -422,48 +431,48 @@ points =
     ∷ point "set\t1\n"
     (verdict true true
     ∷ rounds 1
-    ∷ writes "......" (0 ∷ 0 ∷ 6 ∷ []) "set\t1\n"
-    ∷ writes "........" (0 ∷ 0 ∷ 6 ∷ []) "set\t1\n.."
-    ∷ writes "....." (10 ∷ 0 ∷ 0 ∷ []) "....."
-    ∷ lineOfFlow 63 "flow\t10\t1\t0\t1\t1\t2\n" 0
-    ∷ lineOfFlow 64 "flow\t10\t1\t0\t1\t1\t2\n" 3
-    ∷ lineOfFlow 64 "flow\t0\t1\t0\t1\t1\t2\n" 3
-    ∷ lineOfFlow 64 "flow\t0\t1\t0\t1\t1\t2" 1
-    ∷ lineOfFlow 0 "flow\t0\t0\t0\t0\n" 4
-    ∷ lineOfFlow 0 "flow\t10\t0\t0\t0\n" 5
-    ∷ lineOfFlow 0 "flow\t10\t11\t0\t1\t1\t2\n" 5
-    ∷ lineOfFlow 0 "flow\t10\t10\t0\t0\n" 6
-    ∷ lineOfFlow 0 "flow\t10\t10\t0\t5\t1\t2\n" 6
-    ∷ lineOfFlow 0 "flow\t10\t10\t0\t4\t1\t2\n" 0
-    ∷ lineOfFlow 0 "flow\t10\t10\t0\t1\n" 7
-    ∷ lineOfFlow 0 "flow\t10\t10\t0\n" 1
-    ∷ lineOfFlow 0 "flow\t10\t10\t0\t1\t1\n" 7
-    ∷ lineOfFlow 0 "flow\t16\t16\t0\t1\t0\t1\t2\t3\t4\t5\t6\t7\t8\t9\t10\t11\t12\t13\t14\t15\t16\n" 0
-    ∷ lineOfFlow 0 "flow\t16\t16\t0\t1\t0\t1\t2\t3\t4\t5\t6\t7\t8\t9\t10\t11\t12\t13\t14\t15\t16\t16\n" 7
-    ∷ lineOfFlow 0 "flow\t10\t4\t0\t1\t1\t0\n" 0
-    ∷ lineOfFlow 0 "flow\t10\t4\t0\t1\t0\t0\n" 8
-    ∷ lineOfFlow 0 "flow\t10\t1\t0\t1\t1\t2\t2\n" 8
-    ∷ lineOfFlow 0 "flow\t64\t63\t0\t4\t1\t2\t1\t2\t1\t2\t1\t2\t1\t2\t1\t2\t1\t2\t1\t2\t1\n" 9
-    ∷ lineOfFlow 0 "flow\t64\t64\t0\t4\t1\t2\t1\t2\t1\t2\t1\t2\t1\t2\t1\t2\t1\t2\t1\t2\t1\t1\n" 7
-    ∷ planOfZeros 16384 "refused\t1\t1\n"
-    ∷ planOfZeros 16385 "refused\t10\t0\n"
+    ∷ writes "......" (0 ∷ 0 ∷ 0 ∷ 6 ∷ []) "set\t1\n"
+    ∷ writes "........" (0 ∷ 0 ∷ 0 ∷ 6 ∷ []) "set\t1\n.."
+    ∷ writes "....." (10 ∷ 0 ∷ 0 ∷ 0 ∷ []) "....."
+    ∷ lineOfFlow 63 "flow\t10\t1\t0\t1\t1\t2\n" 0 0
+    ∷ lineOfFlow 64 "flow\t10\t1\t0\t1\t1\t2\n" 3 1
+    ∷ lineOfFlow 64 "flow\t0\t1\t0\t1\t1\t2\n" 3 1
+    ∷ lineOfFlow 64 "flow\t0\t1\t0\t1\t1\t2" 1 0
+    ∷ lineOfFlow 0 "flow\t0\t0\t0\t0\n" 4 2
+    ∷ lineOfFlow 0 "flow\t10\t0\t0\t0\n" 5 3
+    ∷ lineOfFlow 0 "flow\t10\t11\t0\t1\t1\t2\n" 5 3
+    ∷ lineOfFlow 0 "flow\t10\t10\t0\t0\n" 6 5
+    ∷ lineOfFlow 0 "flow\t10\t10\t0\t5\t1\t2\n" 6 5
+    ∷ lineOfFlow 0 "flow\t10\t10\t0\t4\t1\t2\n" 0 0
+    ∷ lineOfFlow 0 "flow\t10\t10\t0\t1\n" 7 0
+    ∷ lineOfFlow 0 "flow\t10\t10\t0\n" 1 0
+    ∷ lineOfFlow 0 "flow\t10\t10\t0\t1\t1\n" 7 0
+    ∷ lineOfFlow 0 "flow\t16\t16\t0\t1\t0\t1\t2\t3\t4\t5\t6\t7\t8\t9\t10\t11\t12\t13\t14\t15\t16\n" 0 0
+    ∷ lineOfFlow 0 "flow\t16\t16\t0\t1\t0\t1\t2\t3\t4\t5\t6\t7\t8\t9\t10\t11\t12\t13\t14\t15\t16\t16\n" 7 0
+    ∷ lineOfFlow 0 "flow\t10\t4\t0\t1\t1\t0\n" 0 0
+    ∷ lineOfFlow 0 "flow\t10\t4\t0\t1\t0\t0\n" 8 7
+    ∷ lineOfFlow 0 "flow\t10\t1\t0\t1\t1\t2\t2\n" 8 8
+    ∷ lineOfFlow 0 "flow\t64\t63\t0\t4\t1\t2\t1\t2\t1\t2\t1\t2\t1\t2\t1\t2\t1\t2\t1\t2\t1\n" 9 0
+    ∷ lineOfFlow 0 "flow\t64\t64\t0\t4\t1\t2\t1\t2\t1\t2\t1\t2\t1\t2\t1\t2\t1\t2\t1\t2\t1\t1\n" 7 0
+    ∷ planOfZeros 16384 "refused\t1\t1\t1\n"
+    ∷ planOfZeros 16385 "refused\t10\t0\t0\n"
     ∷ []
     )
     -- ours: P1 slot by slot for C, with the refusals 10 to 12; and records of many flows
     ∷ point "set\t3\nflow\t10\t8\t0\t1\t1\t2\t3\nflow\t20\t20\t0\t1\t4\t2\t5\n"
-    (slotC [] "......................" (0 ∷ 0 ∷ 18 ∷ []) (1 ∷ 0 ∷ 0 ∷ 0 ∷ 1 ∷ []) "send\t0\t0\t1\t2\t0\t11\n...."
-    ∷ slotC [] "................." (10 ∷ 0 ∷ 0 ∷ []) [] "................."
-    ∷ slotC (2 ∷ 1 ∷ 0 ∷ 0 ∷ 2 ∷ 1 ∷ []) "...................." (0 ∷ 0 ∷ 20 ∷ []) (3 ∷ 1 ∷ 0 ∷ 0 ∷ 2 ∷ 2 ∷ [])
+    (slotC [] "......................" (0 ∷ 0 ∷ 0 ∷ 18 ∷ []) (1 ∷ 0 ∷ 0 ∷ 0 ∷ 1 ∷ []) "send\t0\t0\t1\t2\t0\t11\n...."
+    ∷ slotC [] "................." (10 ∷ 0 ∷ 0 ∷ 0 ∷ []) [] "................."
+    ∷ slotC (2 ∷ 1 ∷ 0 ∷ 0 ∷ 2 ∷ 1 ∷ []) "...................." (0 ∷ 0 ∷ 0 ∷ 20 ∷ []) (3 ∷ 1 ∷ 0 ∷ 0 ∷ 2 ∷ 2 ∷ [])
     "send\t258\t1\t2\t5\t0\t11\n"
-    ∷ slotC (255 ∷ 39 ∷ 107 ∷ 238 ∷ 2 ∷ 2 ∷ []) "." (0 ∷ 0 ∷ 0 ∷ []) (0 ∷ 40 ∷ 107 ∷ 238 ∷ 2 ∷ 2 ∷ []) "."
-    ∷ slotC (0 ∷ 40 ∷ 107 ∷ 238 ∷ 2 ∷ 2 ∷ []) "." (11 ∷ 0 ∷ 0 ∷ []) (0 ∷ 40 ∷ 107 ∷ 238 ∷ 2 ∷ 2 ∷ []) "."
-    ∷ slotC (0 ∷ 40 ∷ 107 ∷ 238 ∷ 3 ∷ 2 ∷ []) "." (12 ∷ 0 ∷ 0 ∷ []) (0 ∷ 40 ∷ 107 ∷ 238 ∷ 3 ∷ 2 ∷ []) "."
-    ∷ slotC (1 ∷ 40 ∷ 107 ∷ 238 ∷ 2 ∷ 2 ∷ []) "." (12 ∷ 0 ∷ 0 ∷ []) (1 ∷ 40 ∷ 107 ∷ 238 ∷ 2 ∷ 2 ∷ []) "."
-    ∷ slotC (0 ∷ 0 ∷ 0 ∷ 0 ∷ 0 ∷ 0 ∷ 1 ∷ []) "" (12 ∷ 0 ∷ 0 ∷ []) (0 ∷ 0 ∷ 0 ∷ 0 ∷ 0 ∷ 0 ∷ 1 ∷ []) ""
-    ∷ badLength 67 (12 ∷ 0 ∷ 0 ∷ [])
-    ∷ badLength 69 (12 ∷ 0 ∷ 0 ∷ [])
-    ∷ tableC (9 ∷ 9 ∷ 9 ∷ 9 ∷ 9 ∷ 9 ∷ 9 ∷ 9 ∷ 9 ∷ []) (0 ∷ 0 ∷ 8 ∷ []) (2 ∷ 4 ∷ 2 ∷ 8 ∷ 2 ∷ 6 ∷ 6 ∷ 20 ∷ 9 ∷ [])
-    ∷ tableC (9 ∷ 9 ∷ 9 ∷ 9 ∷ 9 ∷ 9 ∷ 9 ∷ []) (10 ∷ 0 ∷ 0 ∷ []) (9 ∷ 9 ∷ 9 ∷ 9 ∷ 9 ∷ 9 ∷ 9 ∷ [])
+    ∷ slotC (255 ∷ 39 ∷ 107 ∷ 238 ∷ 2 ∷ 2 ∷ []) "." (0 ∷ 0 ∷ 0 ∷ 0 ∷ []) (0 ∷ 40 ∷ 107 ∷ 238 ∷ 2 ∷ 2 ∷ []) "."
+    ∷ slotC (0 ∷ 40 ∷ 107 ∷ 238 ∷ 2 ∷ 2 ∷ []) "." (11 ∷ 0 ∷ 0 ∷ 0 ∷ []) (0 ∷ 40 ∷ 107 ∷ 238 ∷ 2 ∷ 2 ∷ []) "."
+    ∷ slotC (0 ∷ 40 ∷ 107 ∷ 238 ∷ 3 ∷ 2 ∷ []) "." (12 ∷ 0 ∷ 0 ∷ 0 ∷ []) (0 ∷ 40 ∷ 107 ∷ 238 ∷ 3 ∷ 2 ∷ []) "."
+    ∷ slotC (1 ∷ 40 ∷ 107 ∷ 238 ∷ 2 ∷ 2 ∷ []) "." (12 ∷ 0 ∷ 0 ∷ 0 ∷ []) (1 ∷ 40 ∷ 107 ∷ 238 ∷ 2 ∷ 2 ∷ []) "."
+    ∷ slotC (0 ∷ 0 ∷ 0 ∷ 0 ∷ 0 ∷ 0 ∷ 1 ∷ []) "" (12 ∷ 0 ∷ 0 ∷ 0 ∷ []) (0 ∷ 0 ∷ 0 ∷ 0 ∷ 0 ∷ 0 ∷ 1 ∷ []) ""
+    ∷ badLength 67 (12 ∷ 0 ∷ 0 ∷ 0 ∷ [])
+    ∷ badLength 69 (12 ∷ 0 ∷ 0 ∷ 0 ∷ [])
+    ∷ tableC (9 ∷ 9 ∷ 9 ∷ 9 ∷ 9 ∷ 9 ∷ 9 ∷ 9 ∷ 9 ∷ []) (0 ∷ 0 ∷ 0 ∷ 8 ∷ []) (2 ∷ 4 ∷ 2 ∷ 8 ∷ 2 ∷ 6 ∷ 6 ∷ 20 ∷ 9 ∷ [])
+    ∷ tableC (9 ∷ 9 ∷ 9 ∷ 9 ∷ 9 ∷ 9 ∷ 9 ∷ []) (10 ∷ 0 ∷ 0 ∷ 0 ∷ []) (9 ∷ 9 ∷ 9 ∷ 9 ∷ 9 ∷ 9 ∷ 9 ∷ [])
     ∷ copies 64 0 0
     ∷ copies 65 3 66
     ∷ []
@@ -526,12 +535,12 @@ points =
     )
     -- request 2: neither admits P3, whatever its starts and periods
     ∷ point "set\t15\nflow\t10\t1\t0\t1\t1\t2\nflow\t10\t1\t0\t1\t3\t4\nflow\t10\t1\t0\t1\t5\t6\nflow\t10\t1\t0\t1\t7\t8\nflow\t10\t1\t0\t1\t9\t10\n"
-    (sizeC (14 ∷ 0 ∷ 0 ∷ 0 ∷ [])
-    ∷ frame ("refused\t14\t0\n" ∷ [])
+    (sizeC (14 ∷ 0 ∷ 0 ∷ 0 ∷ 0 ∷ [])
+    ∷ frame ("refused\t14\t0\t0\n" ∷ [])
     ∷ []
     )
     ∷ point "set\t15\nflow\t10\t1\t3\t1\t1\t2\nflow\t65535\t1\t0\t1\t3\t4\nflow\t10\t1\t0\t1\t5\t6\nflow\t10\t1\t0\t1\t7\t8\nflow\t10\t1\t0\t1\t9\t10\n"
-    (sizeC (14 ∷ 0 ∷ 0 ∷ 0 ∷ [])
+    (sizeC (14 ∷ 0 ∷ 0 ∷ 0 ∷ 0 ∷ [])
     ∷ []
     )
     -- request 2: P7
@@ -578,28 +587,28 @@ points =
     )
     -- request 2: rooms on either side of a table of one row
     ∷ point "set\t1\nflow\t2\t2\t0\t1\t1\t2\n"
-    (sizeC (0 ∷ 0 ∷ 2 ∷ 4 ∷ [])
+    (sizeC (0 ∷ 0 ∷ 0 ∷ 2 ∷ 4 ∷ [])
     ∷ frame ("0\t0\t0\t0\n" ∷ [])
-    ∷ loadC (9 ∷ 9 ∷ 9 ∷ 9 ∷ []) (0 ∷ 0 ∷ 2 ∷ 4 ∷ []) (0 ∷ 0 ∷ 0 ∷ 0 ∷ [])
-    ∷ loadC (9 ∷ 9 ∷ 9 ∷ 9 ∷ 9 ∷ 9 ∷ 9 ∷ []) (0 ∷ 0 ∷ 2 ∷ 4 ∷ []) (0 ∷ 0 ∷ 0 ∷ 0 ∷ 9 ∷ 9 ∷ 9 ∷ [])
-    ∷ loadC (9 ∷ 9 ∷ 9 ∷ []) (10 ∷ 0 ∷ 0 ∷ 0 ∷ []) (9 ∷ 9 ∷ 9 ∷ [])
+    ∷ loadC (9 ∷ 9 ∷ 9 ∷ 9 ∷ []) (0 ∷ 0 ∷ 0 ∷ 2 ∷ 4 ∷ []) (0 ∷ 0 ∷ 0 ∷ 0 ∷ [])
+    ∷ loadC (9 ∷ 9 ∷ 9 ∷ 9 ∷ 9 ∷ 9 ∷ 9 ∷ []) (0 ∷ 0 ∷ 0 ∷ 2 ∷ 4 ∷ []) (0 ∷ 0 ∷ 0 ∷ 0 ∷ 9 ∷ 9 ∷ 9 ∷ [])
+    ∷ loadC (9 ∷ 9 ∷ 9 ∷ []) (10 ∷ 0 ∷ 0 ∷ 0 ∷ 0 ∷ []) (9 ∷ 9 ∷ 9 ∷ [])
     ∷ []
     )
     -- request 2: no flows
     ∷ point "set\t1\n"
     (loads 1 []
-    ∷ loadC [] (0 ∷ 0 ∷ 1 ∷ 0 ∷ []) []
+    ∷ loadC [] (0 ∷ 0 ∷ 0 ∷ 1 ∷ 0 ∷ []) []
     ∷ frame []
     ∷ []
     )
     -- request 2: 15 before 16; the nearest hyper-periods on both sides of the limit
     ∷ point "set\t3\nflow\t65535\t400\t5\t1\t1\t2\t3\nflow\t2\t2\t0\t1\t8\t9\n"
-    (sizeC (15 ∷ 0 ∷ 0 ∷ 0 ∷ [])
+    (sizeC (15 ∷ 0 ∷ 0 ∷ 0 ∷ 0 ∷ [])
     ∷ []
     )
     ∷ point "set\t3\nflow\t65535\t400\t0\t1\t1\t2\t3\nflow\t2\t2\t0\t1\t8\t9\n"
     (loading 16 131070
-    ∷ frame ("refused\t16\t0\n" ∷ [])
+    ∷ frame ("refused\t16\t0\t0\n" ∷ [])
     ∷ []
     )
     ∷ point "set\t3\nflow\t65535\t400\t0\t1\t1\t2\t3\nflow\t5\t5\t0\t1\t8\t9\n"
@@ -612,17 +621,55 @@ points =
     )
     -- request 2: a start in the second flow; the reader's refusals come first
     ∷ point "set\t3\nflow\t10\t8\t0\t1\t1\t2\t3\nflow\t20\t20\t1\t1\t4\t2\t5\n"
-    (sizeC (15 ∷ 0 ∷ 0 ∷ 0 ∷ [])
-    ∷ loadC (9 ∷ []) (15 ∷ 0 ∷ 0 ∷ 0 ∷ []) (9 ∷ [])
+    (sizeC (15 ∷ 0 ∷ 0 ∷ 0 ∷ 0 ∷ [])
+    ∷ loadC (9 ∷ []) (15 ∷ 0 ∷ 0 ∷ 0 ∷ 0 ∷ []) (9 ∷ [])
     ∷ []
     )
     ∷ point "set\t3\nflow\t10\t8\t5\t1\t1\t2\t2\n"
-    (loadC (9 ∷ []) (8 ∷ 2 ∷ 0 ∷ 0 ∷ []) (9 ∷ [])
-    ∷ frame ("refused\t8\t2\n" ∷ [])
+    (loadC (9 ∷ []) (8 ∷ 2 ∷ 8 ∷ 0 ∷ 0 ∷ []) (9 ∷ [])
+    ∷ frame ("refused\t8\t2\t8\n" ∷ [])
+    ∷ []
+    )
+    -- request 3: texts without a bad field, and the first bad field of others
+    ∷ point ""
+    (refused 1 1 0
+    ∷ []
+    )
+    ∷ point "\n"
+    (refused 1 1 1
+    ∷ []
+    )
+    ∷ point "set"
+    (refused 1 1 0
+    ∷ []
+    )
+    ∷ point "set\tx\t4\n"
+    (refused 1 1 2
+    ∷ []
+    )
+    ∷ point "set\t3\t4\n"
+    (refused 1 1 3
+    ∷ []
+    )
+    ∷ point "set\t3\n\n"
+    (refused 1 2 1
+    ∷ []
+    )
+    ∷ point "set\t3\nflow\t10\t8\t0\t1\t1\t2"
+    (refused 1 2 0
+    ∷ []
+    )
+    ∷ point "set\t3\nflow\t10\t8\t0\t1\t1\t2\t1\t2\t1\t2\t1\t2\t1\t2\t1\t2\t1\t2\t1\t2\t1\t2\t1\t2\t1\t2\t1\t2\t1\t2\t1\t2\t1\t2\t1\t2\t1\t2\t1\t2\t1\t2\t1\t2\tx\n"
+    (refused 1 2 46
+    ∷ plan ("refused\t1\t2\t46\n" ∷ [])
+    ∷ []
+    )
+    ∷ point "set\t3\nflow\t10\t8\t0\t1\t1\t2\t1\t2\t1\t2\t1\t2\t1\t2\t1\t2\t1\t2\t1\t2\t1\t2\t1\t2\t1\t2\t1\t2\t1\t2\t1\t2\t1\t2\t1\t2\t1\t2\t1\t2\t1\t2\t1\t2\n"
+    (refused 7 2 0
     ∷ []
     )
     ∷ []
 
 pub every-point : T (every points)
-unfolding every points point allHold holds same? sameSigned faultIs writtenRow slotRow offsetRows deliveryRows reportHolds sendRowsTo flowsOf rows sameRows bytes bytesOf same lines ended fields allDigits valueFrom isNumber allNumbers valuesOf wellFormed numbersOf decimalIn decimal tabbed decimals lineOf repeatAt flowFault flowsFault recordFault flowOf withFlow firstLineFault flowLineFault readFlows setOf readLines readText flowLines textOf writeFault writeAnswer writeInto conflictWork share overOthers boundWith basicBound valueAt deadlines lowered roundTo roundsIn reached tightBound admits verdictOf boundsFault boundsOf ready nextCount insert ordered place placedWith channelsTo radioChannel sendOf sendsFrom countWith deliveredWith deliveriesOf droppedWith nextWith badState stepFault stepWith runWith stateBytes stateOf sendLines slotLines slotFault slotState slotBuffer boundLines runLines planOf planText verdictOfReading boundsOfReading slotAnswer boundsRows tableFault tableAnswer tableAfter verdictForC boundsForC slotForC allBoundsForC sizeOfReading superframeOfReading superframeAfter sizeForC superframeForC writeTableForC readTableForC channelForC multipleFrom lcm hyperTo rowsFrom rowsTo flat sizeFault superframeFault sizeAnswer superframeAnswer superframeInto rowLines rowsIn writeTableAnswer writeTableInto rowFormed rowOf above linesFault readTableFault readTableAnswer readTableInto superframeText frameRow tableRow verdictRow boundsAnswerRow sumTo anyTo allTo used anyOf meet listTo filterTo ones onesIn
+unfolding every points point allHold holds same? sameSigned faultIs writtenRow slotRow offsetRows deliveryRows reportHolds sendRowsTo flowsOf rows sameRows bytes bytesOf same lines ended fields allDigits valueFrom isNumber allNumbers valuesOf wellFormed numbersOf decimalIn decimal tabbed decimals lineOf repeatAt flowFault flowsFault recordFault flowOf withFlow firstLineFault flowLineFault firstBreaking firstLineField flowLineField readFlows setOf readLines readText flowLines textOf writeFault writeAnswer writeInto conflictWork share overOthers boundWith basicBound valueAt deadlines lowered roundTo roundsIn reached tightBound admits verdictOf boundsFault boundsOf ready nextCount insert ordered place placedWith channelsTo radioChannel sendOf sendsFrom countWith deliveredWith deliveriesOf droppedWith nextWith badState stepFault stepWith runWith stateBytes stateOf sendLines slotLines slotFault slotState slotBuffer boundLines runLines planOf planText verdictOfReading boundsOfReading slotAnswer boundsRows tableFault tableAnswer tableAfter verdictForC boundsForC slotForC allBoundsForC sizeOfReading superframeOfReading superframeAfter sizeForC superframeForC writeTableForC readTableForC channelForC multipleFrom lcm hyperTo rowsFrom rowsTo flat sizeFault superframeFault sizeAnswer superframeAnswer superframeInto rowLines rowsIn writeTableAnswer writeTableInto rowFormed rowOf above linesFault readTableFault readTableAnswer readTableInto superframeText frameRow tableRow linesRow rowsRow verdictRow boundsAnswerRow sumTo anyTo allTo used anyOf meet listTo filterTo ones onesIn
 every-point = tt

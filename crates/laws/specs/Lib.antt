@@ -14,5 +14,9 @@ pub mod TestAnswers
 pub mod Codes
 pub mod Nodes
 pub mod WrittenNumbers
+pub mod LinesRead
+pub mod LineFields
+pub mod FieldFits
+pub mod NamedFields
 pub mod FlatRows
 pub mod HyperPeriod

@@ -111,7 +111,18 @@ lines-tabbed (v ∷ vs) t =
     ∙ ap (λ (ls : List (List ℕ)). onto 9 ls)
     (lines-digits (decimal v) (tabbed (decimals vs) ++ t) (tabbed (decimals vs)) (lines t) (decimal-digits v) (lines-tabbed vs t))
 
--- and its numbers
+-- and its numbers: one for each field, with its value
+pub values-length : (fs : List (List ℕ)) → length (valuesOf fs) ≡ length fs
+unfolding valuesOf
+values-length [] = refl
+values-length (f ∷ fs) = ap suc (values-length fs)
+
+pub value-at : (fs : List (List ℕ)) (i : ℕ) → getD (valuesOf fs) i 0 ≡ valueOf (getD fs i [])
+unfolding valuesOf valueFrom
+value-at [] i = refl
+value-at (f ∷ fs) zero = refl
+value-at (f ∷ fs) (suc i) = value-at fs i
+
 pub values-back : (vs : List ℕ) → ((i : ℕ) → getD vs i 0 < tens 10) → valuesOf (decimals vs) ≡ vs
 unfolding valuesOf decimals
 values-back [] h = refl

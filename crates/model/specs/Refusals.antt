@@ -35,9 +35,13 @@ numberSays Refused = (refusalNumber BadForm, [])
 abbrev pub good : Refusal → Bool
 good r = eqb (refusalNumber r) 0
 
--- a refusal and the line that it names
+-- a refusal with the line that it names, counted from 1, and that line's field; 0 names none
+abbrev pub faultIn : Refusal → ℕ → ℕ → Fault
+faultIn r n f = record { refusal = r; line = n; field = f }
+
+-- a refusal that names no field
 abbrev pub faultAt : Refusal → ℕ → Fault
-faultAt r n = record { refusal = r; line = n }
+faultAt r n = faultIn r n 0
 
 abbrev pub noFault : Fault
 noFault = faultAt Nothing 0

@@ -65,10 +65,12 @@ pub enum NumberRead {
     Refused,
 }
 
-// A refusal with the line it names, 0 where it names none. A table can have more lines than 32 bits count.
+// A refusal with the line it names and that line's field, 0 where it names none. A table can have more lines than 32 bits count, and a line
+// more fields.
 pub struct Fault {
     pub refusal: Refusal,
     pub line: usize,
+    pub field: usize,
 }
 
 impl Fault {
@@ -79,6 +81,7 @@ impl Fault {
         Fault {
             refusal: Refusal::Nothing,
             line: 0,
+            field: 0,
         }
     }
 
@@ -86,7 +89,11 @@ impl Fault {
     pub fn of(refusal: Refusal) -> Fault
         ensures { λ r. ⌜ r ≡ faultAt refusal 0 ⌝ }
     {
-        Fault { refusal, line: 0 }
+        Fault {
+            refusal,
+            line: 0,
+            field: 0,
+        }
     }
 
     // This fault, if it refuses something, before the later one.
@@ -243,6 +250,7 @@ pub struct Ran {
 pub struct VerdictAnswer {
     pub refusal: u32,
     pub line: usize,
+    pub field: usize,
     pub basic: u32,
     pub tightened: u32,
     pub rounds: u32,
@@ -252,6 +260,7 @@ pub struct VerdictAnswer {
 pub struct BoundsAnswer {
     pub refusal: u32,
     pub line: usize,
+    pub field: usize,
     pub work: u32,
     pub basic: u32,
     pub tightened: u32,
@@ -263,6 +272,7 @@ pub struct BoundsAnswer {
 pub struct SlotAnswer {
     pub refusal: u32,
     pub line: usize,
+    pub field: usize,
     pub length: usize,
 }
 
@@ -271,6 +281,7 @@ pub struct SlotAnswer {
 pub struct TableAnswer {
     pub refusal: u32,
     pub line: usize,
+    pub field: usize,
     pub numbers: usize,
 }
 
@@ -279,7 +290,24 @@ pub struct TableAnswer {
 pub struct SuperframeAnswer {
     pub refusal: u32,
     pub line: usize,
+    pub field: usize,
     pub hyper: u32,
+    pub numbers: usize,
+}
+
+// How many bytes the lines of a table are. Lines of a table have no field to be named.
+#[repr(C)]
+pub struct LinesAnswer {
+    pub refusal: u32,
+    pub line: usize,
+    pub length: usize,
+}
+
+// How many 16-bit numbers were read from the lines of a table.
+#[repr(C)]
+pub struct RowsAnswer {
+    pub refusal: u32,
+    pub line: usize,
     pub numbers: usize,
 }
 

@@ -49,7 +49,7 @@ read-refused r h = ap (planIf r) h
 -- ---- no text is longer than the longest plan
 
 refused-le : (f : Fault) → length (refusedLine f) ≤ mostPlan
-refused-le f = let a = line-le refusedWord (refusalNumber (f .refusal) ∷ f .line ∷ []) in omega arith
+refused-le f = let a = line-le refusedWord (refusalNumber (f .refusal) ∷ f .line ∷ f .field ∷ []) in omega arith
 
 read-le : (input : List ℕ) → length (planRead (readText input)) ≤ mostPlan
 read-le input = go (good (readText input .fault .refusal)) refl

@@ -1,11 +1,11 @@
 // The plan of a text, as the program prints it.
 ghost use lib.ListN.{length};
 ghost use Rattle.text.specs.Put.{Put};
-ghost use Rattle.text.specs.NamedLine.{lastLine};
+ghost use Rattle.laws.specs.LinesRead.{lastLine};
 ghost use Rattle.plan_text.specs.PlanOfReading.{Passed, planRead};
-ghost use Rattle.document.specs.Program.{planText, planAnswer, planInto};
+ghost use Rattle.document.specs.Program.{mostInput, planText, planAnswer, planInto};
 ghost use mathlib.Core.Path.{_≡_};
-ghost use Prim.Native.Nat.{_≤_};
+ghost use Prim.Native.Nat.{_+_, _≤_};
 
 mod lines;
 
@@ -27,13 +27,19 @@ pub const MOST_PLAN: usize = 18432;
 // What the program prints for a text that was read: the plan, or the line of the reader's refusal.
 fn put_reading(out: &mut [u8], reading: Reading) -> usize
     requires { ⌜ Passed reading ⌝ }
-    requires { ⌜ reading .fault .line ≤ lastLine ⌝ }
+    requires { ⌜ (reading .fault .line ≤ lastLine) × (reading .fault .field ≤ mostInput + 1) ⌝ }
     ensures { λ r. ⌜ Put (now (out .entry)) 0 (planRead reading) (now (out .exit)) r ⌝ }
 {
     let fault = reading.fault;
     if fault.refuses() {
         let refusal = fault.refusal;
-        return put_refused(out, 0, refusal.code() as u32, fault.line as u32);
+        return put_refused(
+            out,
+            0,
+            refusal.code() as u32,
+            fault.line as u32,
+            fault.field as u32,
+        );
     }
     let set = reading.set;
     put_plan(out, set)

@@ -78,7 +78,7 @@ pub fn put_too_long(out: &mut [u8]) -> usize
     ensures { λ r. ⌜ Put (now (out .entry)) 0 (refusedLine (faultAt NoRoom 0)) (now (out .exit)) r ⌝ }
 {
     let refusal = Refusal::NoRoom;
-    put_refused(out, 0, refusal.code() as u32, 0)
+    put_refused(out, 0, refusal.code() as u32, 0, 0)
 }
 
 // The line of flow k: C, both bounds, deadline and margin.

@@ -12,11 +12,13 @@ use Rattle.model.specs.declared.answers.BoundsAnswer.{BoundsAnswer}
 use Rattle.model.specs.declared.answers.SlotAnswer.{SlotAnswer}
 use Rattle.model.specs.declared.answers.TableAnswer.{TableAnswer}
 use Rattle.model.specs.declared.answers.SuperframeAnswer.{SuperframeAnswer}
+use Rattle.model.specs.declared.answers.LinesAnswer.{LinesAnswer}
+use Rattle.model.specs.declared.answers.RowsAnswer.{RowsAnswer}
 use Rattle.model.specs.declared.answers.Tabled.{Tabled}
-use Rattle.document.specs.ForC.{boundsNumbers, readNumbers, slotNumbers, superframeNumbers, tableNumbers, verdictNumbers}
+use Rattle.document.specs.ForC.{boundsNumbers, linesNumbers, readNumbers, slotNumbers, superframeNumbers, tableNumbers, verdictNumbers}
 
 abbrev verdictWith : Verdict → ℕ → ℕ → ℕ → VerdictAnswer
-verdictWith v n b t = record { refusal = n; line = v .fault .line; basic = b; tightened = t; rounds = v .rounds }
+verdictWith v n b t = record { refusal = n; line = v .fault .line; field = v .fault .field; basic = b; tightened = t; rounds = v .rounds }
 
 pub verdict-numbers : (v : Verdict) (n b t : ℕ) → n ≡ refusalNumber (v .fault .refusal) → b ≡ bit (v .basic) → t ≡ bit (v .tightened)
     → verdictWith v n b t ≡ verdictNumbers v
@@ -27,6 +29,7 @@ boundsWith b n m =
     record {
       refusal = n;
       line = b .fault .line;
+      field = b .fault .field;
       work = b .work;
       basic = b .basic;
       tightened = b .tightened;
@@ -38,24 +41,30 @@ pub bounds-numbers : (b : Bounds) (n : ℕ) (m : ℤ) → n ≡ refusalNumber (b
 bounds-numbers b n m e f = rw (e, f)
 
 abbrev slotWith : Written → ℕ → SlotAnswer
-slotWith w n = record { refusal = n; line = w .fault .line; length = w .length }
+slotWith w n = record { refusal = n; line = w .fault .line; field = w .fault .field; length = w .length }
 
 pub slot-numbers : (w : Written) (n : ℕ) → n ≡ refusalNumber (w .fault .refusal) → slotWith w n ≡ slotNumbers w
 slot-numbers w n e = rw e
 
 abbrev tableWith : Written → ℕ → TableAnswer
-tableWith w n = record { refusal = n; line = w .fault .line; numbers = w .length }
+tableWith w n = record { refusal = n; line = w .fault .line; field = w .fault .field; numbers = w .length }
 
 pub table-numbers : (w : Written) (n : ℕ) → n ≡ refusalNumber (w .fault .refusal) → tableWith w n ≡ tableNumbers w
 table-numbers w n e = rw e
 
 abbrev superframeWith : Tabled → ℕ → SuperframeAnswer
-superframeWith a n = record { refusal = n; line = a .fault .line; hyper = a .hyper; numbers = a .numbers }
+superframeWith a n = record { refusal = n; line = a .fault .line; field = a .fault .field; hyper = a .hyper; numbers = a .numbers }
 
 pub superframe-numbers : (a : Tabled) (n : ℕ) → n ≡ refusalNumber (a .fault .refusal) → superframeWith a n ≡ superframeNumbers a
 superframe-numbers a n e = rw e
 
-abbrev readWith : Tabled → ℕ → TableAnswer
+abbrev linesWith : Written → ℕ → LinesAnswer
+linesWith w n = record { refusal = n; line = w .fault .line; length = w .length }
+
+pub lines-numbers : (w : Written) (n : ℕ) → n ≡ refusalNumber (w .fault .refusal) → linesWith w n ≡ linesNumbers w
+lines-numbers w n e = rw e
+
+abbrev readWith : Tabled → ℕ → RowsAnswer
 readWith a n = record { refusal = n; line = a .fault .line; numbers = a .numbers }
 
 pub read-numbers : (a : Tabled) (n : ℕ) → n ≡ refusalNumber (a .fault .refusal) → readWith a n ≡ readNumbers a

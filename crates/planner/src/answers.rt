@@ -57,6 +57,7 @@ pub fn verdict_numbers(v: Verdict) -> VerdictAnswer
     VerdictAnswer {
         refusal: refusal.code() as u32,
         line: fault.line,
+        field: fault.field,
         basic: bit(v.basic),
         tightened: bit(v.tightened),
         rounds: v.rounds,
@@ -72,6 +73,7 @@ pub fn bounds_numbers(b: Bounds) -> BoundsAnswer
     BoundsAnswer {
         refusal: refusal.code() as u32,
         line: fault.line,
+        field: fault.field,
         work: b.work,
         basic: b.basic,
         tightened: b.tightened,
@@ -89,6 +91,7 @@ pub fn slot_numbers(w: Written) -> SlotAnswer
     SlotAnswer {
         refusal: refusal.code() as u32,
         line: fault.line,
+        field: fault.field,
         length: w.length,
     }
 }
@@ -102,6 +105,7 @@ pub fn table_numbers(w: Written) -> TableAnswer
     TableAnswer {
         refusal: refusal.code() as u32,
         line: fault.line,
+        field: fault.field,
         numbers: w.length,
     }
 }

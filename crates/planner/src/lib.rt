@@ -17,13 +17,15 @@ pub use answers::bounds_numbers;
 pub use answers::slot_numbers;
 pub use answers::verdict_numbers;
 use model::BoundsAnswer;
+use model::LinesAnswer;
+use model::RowsAnswer;
 use model::SlotAnswer;
 use model::SuperframeAnswer;
 use model::TableAnswer;
 use model::VerdictAnswer;
 pub use superframes::superframe_numbers;
 
-// Both verdicts of the set in `text`; a text that is refused has the reader's refusal and line, and zeros.
+// Both verdicts of the set in `text`; a text that is refused has the reader's refusal, line and field, and zeros.
 #[no_mangle]
 pub extern "C" fn rembasuk_verdict(text: &[u8]) -> VerdictAnswer
     ensures { λ r. ⌜ r ≡ verdictForC (now (text .entry)) ⌝ }
@@ -92,17 +94,17 @@ pub extern "C" fn rembasuk_superframe(text: &[u8], table: &mut [u16]) -> Superfr
 
 // The lines of a table's whole rows at the start of `lines`, or 10; a refusal changes nothing.
 #[no_mangle]
-pub extern "C" fn rembasuk_table_write(table: &[u16], lines: &mut [u8]) -> SlotAnswer
+pub extern "C" fn rembasuk_table_write(table: &[u16], lines: &mut [u8]) -> LinesAnswer
     ensures { λ r. ⌜ r ≡ writeTableForC (now (table .entry)) (length (now (lines .entry))) ⌝ }
     ensures { λ r. ⌜ now (lines .exit) ≡ writeTableInto (now (table .entry)) (now (lines .entry)) ⌝ }
 {
     let written = text::write_table(table, lines);
-    slot_numbers(written)
+    superframes::lines_numbers(written)
 }
 
 // The rows of a table's lines at the start of `table`: 1 with the line for form or order, then 10; a refusal changes nothing.
 #[no_mangle]
-pub extern "C" fn rembasuk_table_read(lines: &[u8], table: &mut [u16]) -> TableAnswer
+pub extern "C" fn rembasuk_table_read(lines: &[u8], table: &mut [u16]) -> RowsAnswer
     ensures { λ r. ⌜ r ≡ readTableForC (now (lines .entry)) (length (now (table .entry))) ⌝ }
     ensures { λ r. ⌜ now (table .exit) ≡ readTableInto (now (lines .entry)) (now (table .entry)) ⌝ }
 {

@@ -1,13 +1,15 @@
 // The superframe for C: the table of the set that was read, a table's answers in numbers, and the radio channel by which a device sends.
 ghost use mathlib.Core.Path.{_≡_};
 ghost use lib.ListN.{length};
-ghost use Rattle.document.specs.ForC.{channelForC, readNumbers, sizeOfReading, superframeAfter, superframeNumbers, superframeOfReading};
+ghost use Rattle.document.specs.ForC.{channelForC, linesNumbers, readNumbers, sizeOfReading, superframeAfter, superframeNumbers, superframeOfReading};
 use model::ChannelMap;
+use model::LinesAnswer;
 use model::Reading;
+use model::RowsAnswer;
 use model::Slot;
 use model::SuperframeAnswer;
-use model::TableAnswer;
 use model::Tabled;
+use model::Written;
 
 // How long the table of the set that was read is, or the reader's refusal.
 pub fn size_of_reading(reading: Reading) -> Tabled
@@ -43,18 +45,32 @@ pub fn superframe_numbers(a: Tabled) -> SuperframeAnswer
     SuperframeAnswer {
         refusal: refusal.code() as u32,
         line: fault.line,
+        field: fault.field,
         hyper: a.hyper,
         numbers: a.numbers,
     }
 }
 
-// The answer to lines that were read, in numbers: a table that was read has no hyper-period.
-pub fn read_numbers(a: Tabled) -> TableAnswer
+// The length of a table's lines as C is answered: the refusal by document 01's number, no field.
+pub fn lines_numbers(w: Written) -> LinesAnswer
+    ensures { λ r. ⌜ r ≡ linesNumbers w ⌝ }
+{
+    let fault = w.fault;
+    let refusal = fault.refusal;
+    LinesAnswer {
+        refusal: refusal.code() as u32,
+        line: fault.line,
+        length: w.length,
+    }
+}
+
+// The answer to lines that were read, in numbers: a table that was read has no hyper-period, its lines no field.
+pub fn read_numbers(a: Tabled) -> RowsAnswer
     ensures { λ r. ⌜ r ≡ readNumbers a ⌝ }
 {
     let fault = a.fault;
     let refusal = fault.refusal;
-    TableAnswer {
+    RowsAnswer {
         refusal: refusal.code() as u32,
         line: fault.line,
         numbers: a.numbers,

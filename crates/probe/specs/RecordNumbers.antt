@@ -10,11 +10,11 @@ use Rattle.probe.specs.declared.ProbeReading.{ProbeReading}
 use Rattle.probe.specs.declared.ProbeStepped.{ProbeStepped}
 use Rattle.probe.specs.declared.ProbeRan.{ProbeRan}
 
-abbrev pub numbered : ℕ → ℕ → ProbeFault
-numbered n l = record { refusal = n; line = l }
+abbrev pub numbered : ℕ → Fault → ProbeFault
+numbered n f = record { refusal = n; line = f .line; field = f .field }
 
 abbrev pub faultNumbers : Fault → ProbeFault
-faultNumbers f = numbered (refusalNumber (f .refusal)) (f .line)
+faultNumbers f = numbered (refusalNumber (f .refusal)) f
 
 abbrev pub withReading : ProbeFault → Reading → ProbeReading
 withReading f a = record { fault = f; set = a .set }

@@ -29,6 +29,7 @@ use model::VerdictAnswer;
 pub struct ProbeFault {
     pub refusal: u32,
     pub line: usize,
+    pub field: usize,
 }
 
 #[repr(C)]
@@ -65,6 +66,7 @@ fn fault_numbers(fault: Fault) -> ProbeFault
     ProbeFault {
         refusal: refusal.code() as u32,
         line: fault.line,
+        field: fault.field,
     }
 }
 

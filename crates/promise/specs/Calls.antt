@@ -183,7 +183,7 @@ module _ (text : List ℕ) (read : good (readText text .fault .refusal) ≡ true
   -- and answers with the slot's lines.
   call-length : (t room : ℕ) → t < lastSlot → linesLength ≤ room
       → slotForC text (stateBytes (stateIn text t)) room
-      ≡ record { refusal = 0; line = 0; length = length (sendLines (sentIn text t)) }
+      ≡ record { refusal = 0; line = 0; field = 0; length = length (sendLines (sentIn text t)) }
   unfolding slotForC slotAnswer
   call-length t room h r = rw (call-good t room h r, lines-of t h)
 
@@ -201,7 +201,7 @@ module _ (text : List ℕ) (read : good (readText text .fault .refusal) ≡ true
     run-bytes (suc n) h =
         ap (λ (b : List ℕ). slotState (readText text) b (length (lent n))) (run-bytes n (omega arith)) ∙ call-state n (length (lent n)) h (room n)
 
-    answer-is : (t : ℕ) → t < lastSlot → answerAt text lent t ≡ record { refusal = 0; line = 0; length = length (sendLines (sentIn text t)) }
+    answer-is : (t : ℕ) → t < lastSlot → answerAt text lent t ≡ record { refusal = 0; line = 0; field = 0; length = length (sendLines (sentIn text t)) }
     answer-is t h =
         ap (λ (b : List ℕ). slotForC text b (length (lent t))) (run-bytes t (omega arith)) ∙ call-length t (length (lent t)) h (room t)
 

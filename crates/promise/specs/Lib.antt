@@ -31,3 +31,4 @@ pub mod TableLength
 pub mod LeastHyper
 pub mod EveryTable
 pub mod LoadedCalls
+pub mod FieldsForHosts

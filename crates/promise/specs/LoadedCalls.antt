@@ -56,7 +56,7 @@ loadable s h =
     }
 
 -- the answer's fault is the refusal, whether it refuses or not
-tabled-fault : (s : FlowSet) (f : Fault) → tabled s f .fault ≡ f
+pub tabled-fault : (s : FlowSet) (f : Fault) → tabled s f .fault ≡ f
 tabled-fault s f = go (good (f .refusal))
   where
     go : (b : Bool)

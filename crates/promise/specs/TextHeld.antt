@@ -20,11 +20,12 @@ use Rattle.model.specs.Limits.{mostFlows, mostNodes}
 use Rattle.model.specs.Refusals.{good, faultAt, orElse}
 use Rattle.model.specs.Sets.{noFlow, blankFlow, flowAt, exact, used}
 use Rattle.document.specs.Text.{setWord, flowWord, lines, fields, othersOf, valueOf, isNumber, allNumbers, valuesOf, wellFormed, numbersOf}
-use Rattle.document.specs.Reader.{mapFault, recordFlowFault, flowsFault, recordFault, flowOf, withFlow, firstLineFault, flowLineFault, refusedReading, readFlows, setOf, readLines, readText}
+use Rattle.document.specs.Reader.{mapFault, recordFlowFault, flowsFault, recordFault, flowOf, withFlow, firstLineFault, flowLineFault, readFlows, setOf, readLines, readText}
 use Rattle.laws.specs.SumLaws.{and-l, and-r}
 use Rattle.laws.specs.Used.{used-map, used-count, used-flow}
 use Rattle.laws.specs.Accepted.{good-flow}
 use Rattle.laws.specs.Padded.{pad-length, pad-take}
+use Rattle.laws.specs.LinesRead.{read-good, read-bad, first-good, first-bad}
 use Rattle.promise.specs.Promise.{Held}
 
 -- a refusal that is none of a chain
@@ -140,16 +141,6 @@ read-more s l r h =
         ]
 
 -- so it is to the last line, unless a line is refused
-flows-on : (s : FlowSet) (l : List ℕ) (ls : List (List ℕ)) → good (flowLineFault (s .count) l) ≡ true
-    → readFlows s (l ∷ ls) ≡ readFlows (withFlow s (flowOf (numbersOf l))) ls
-unfolding readFlows
-flows-on s l ls e = rw (readFlows, e)
-
-flows-stop : (s : FlowSet) (l : List ℕ) (ls : List (List ℕ)) → good (flowLineFault (s .count) l) ≡ false
-    → readFlows s (l ∷ ls) ≡ refusedReading (flowLineFault (s .count) l) (s .count + 2)
-unfolding readFlows
-flows-stop s l ls e = rw (readFlows, e)
-
 read-flows : (s : FlowSet) (ls : List (List ℕ)) → HeldSoFar s → good (readFlows s ls .fault .refusal) ≡ true → HeldSoFar (readFlows s ls .set)
 unfolding readFlows
 read-flows s [] r h = r
@@ -159,8 +150,8 @@ read-flows s (l ∷ ls) r h = go (good (flowLineFault (s .count) l)) refl (λ q.
         → (HeldSoFar (withFlow s (flowOf (numbersOf l))) → good (readFlows (withFlow s (flowOf (numbersOf l))) ls .fault .refusal) ≡ true
         → HeldSoFar (readFlows (withFlow s (flowOf (numbersOf l))) ls .set))
         → HeldSoFar (readFlows s (l ∷ ls) .set)
-    go true e ih = rw (flows-on s l ls e) (ih (read-more s l r e) (rw (flows-on s l ls e) at h))
-    go false e ih = absurd (false≢true (sym e ∙ rw (flows-stop s l ls e) at h))
+    go true e ih = rw (read-good s l ls e) (ih (read-more s l r e) (rw (read-good s l ls e) at h))
+    go false e ih = absurd (false≢true (sym e ∙ rw (read-bad s l ls e) at h))
 
 read-first : (l : List ℕ) → good (firstLineFault l) ≡ true → HeldSoFar (setOf l)
 unfolding firstLineFault setOf
@@ -173,22 +164,14 @@ read-first l h =
       flow = λ k i. absurd (omega arith);
     }
 
-lines-on : (l : List ℕ) (ls : List (List ℕ)) → good (firstLineFault l) ≡ true → readLines (l ∷ ls) ≡ readFlows (setOf l) ls
-unfolding readLines
-lines-on l ls e = rw (readLines, e)
-
-lines-stop : (l : List ℕ) (ls : List (List ℕ)) → good (firstLineFault l) ≡ false → readLines (l ∷ ls) ≡ refusedReading (firstLineFault l) 1
-unfolding readLines
-lines-stop l ls e = rw (readLines, e)
-
 read-lines : (ls : List (List ℕ)) → good (readLines ls .fault .refusal) ≡ true → HeldSoFar (readLines ls .set)
 unfolding readLines
 read-lines [] h = absurd (false≢true h)
 read-lines (l ∷ ls) h = go (good (firstLineFault l)) refl
   where
     go : (b : Bool) → good (firstLineFault l) ≡ b → HeldSoFar (readLines (l ∷ ls) .set)
-    go true e = rw (lines-on l ls e) (read-flows (setOf l) ls (read-first l e) (rw (lines-on l ls e) at h))
-    go false e = absurd (false≢true (sym e ∙ rw (lines-stop l ls e) at h))
+    go true e = rw (first-good l ls e) (read-flows (setOf l) ls (read-first l e) (rw (first-good l ls e) at h))
+    go false e = absurd (false≢true (sym e ∙ rw (first-bad l ls e) at h))
 
 read-text : (text : List ℕ) → good (readText text .fault .refusal) ≡ true → HeldSoFar (readText text .set)
 unfolding readText

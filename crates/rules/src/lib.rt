@@ -10,11 +10,11 @@ ghost use Rattle.model.specs.Sets.{exact, used};
 
 mod route;
 
-use crate::route::repeat_at;
 use model::Fault;
 use model::Flow;
 use model::FlowSet;
 use model::Refusal;
+pub use route::repeat_at;
 
 // Whether a number is below the least or above the most that a rule allows.
 fn outside(value: usize, least: usize, most: usize) -> bool
@@ -94,7 +94,7 @@ fn record_flow_fault(k: usize, f: Flow) -> Refusal
     )
 }
 
-// The first flow's fault with its line. A flow beyond the array is never looked at: its number alone refuses it.
+// The first flow's fault with its line; a record has no fields. A flow beyond the array is never looked at: its number alone refuses it.
 fn flows_fault(s: FlowSet) -> Fault
     ensures { λ r. ⌜ r ≡ flowsFault (used s) 0 (s .count) ⌝ }
 {
@@ -105,6 +105,7 @@ fn flows_fault(s: FlowSet) -> Fault
             return Fault {
                 refusal: Refusal::TooManyFlows,
                 line: k + 2,
+                field: 0,
             };
         }
         let refusal = record_flow_fault(k, s.flows[k]);
@@ -112,6 +113,7 @@ fn flows_fault(s: FlowSet) -> Fault
             return Fault {
                 refusal,
                 line: k + 2,
+                field: 0,
             };
         }
         k += 1;
@@ -119,6 +121,7 @@ fn flows_fault(s: FlowSet) -> Fault
     Fault {
         refusal: Refusal::Nothing,
         line: 0,
+        field: 0,
     }
 }
 
@@ -128,7 +131,11 @@ pub fn record_fault(s: FlowSet) -> Fault
 {
     let refusal = map_fault(s.map.0);
     if refusal.code() != 0 {
-        return Fault { refusal, line: 1 };
+        return Fault {
+            refusal,
+            line: 1,
+            field: 0,
+        };
     }
     flows_fault(s)
 }

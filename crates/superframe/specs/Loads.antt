@@ -2,10 +2,11 @@
 use mathlib.Core.Path.{_≡_, refl, sym, ap, _∙_}
 use mathlib.Core.Bool.{Bool, true, false, cond, false≢true}
 use mathlib.Core.List.{List}
-use Prim.Native.Nat.{ℕ, _≤_}
+use Prim.Native.Nat.{ℕ, _+_, _≤_}
 use native.Mathlib.Omega.{arith}
 use lib.Dec.{ltb}
 use lib.ListN.{length}
+use borrow.Author.Tests.{ltb-false}
 use Rattle.model.specs.declared.kinds.FlowSet.{FlowSet}
 use Rattle.model.specs.declared.answers.{Fault.{Fault}, Reading.{Reading}, Tabled.{Tabled}, Refusal.the-variants.{NoRoom, NotAdmitted, LateStart, LongHyperPeriod}}
 use Rattle.model.specs.Refusals.{good, faultAt, noFault}
@@ -13,9 +14,8 @@ use Rattle.model.specs.Sets.{blankSet, used}
 use Rattle.document.specs.Reader.{readText, recordFault}
 use Rattle.document.specs.Program.{mostInput, refusedLine}
 use Rattle.document.specs.Superframe.{hyper, mostHyper, neitherAdmits, startsLate, superframe, rowLines, sizeAnswer, sizeFault, sizeFaultRead, superframeText}
-use Rattle.laws.specs.Accepted.{or-else-good}
+use Rattle.laws.specs.{Accepted.{or-else-good}, LinesRead.{lastLine, read-line-le}, NamedFields.{field-le}}
 use Rattle.promise.specs.{LoadedCalls.{loadable}, TextHeld.{text-passes}}
-use Rattle.text.specs.NamedLine.{lastLine, read-line-le}
 use Rattle.superframe_table.specs.SizeAnswers.{size-fault, size-passes}
 use Rattle.superframe.specs.declared.loading.Loaded.{Loaded}
 
@@ -30,27 +30,31 @@ notLoaded f = record { fault = f; hyper = 0; set = blankSet }
 pub record Loads (input : List ℕ) (r : Loaded) : Type 0 where
   pub fault : r .fault ≡ loadFault input
   pub line : r .fault .line ≤ lastLine
+  pub field : r .fault .field ≤ mostInput + 1
   pub set : good (r .fault .refusal) ≡ true → r .set ≡ readText input .set
   pub slots : good (r .fault .refusal) ≡ true → r .hyper ≡ hyper (used (r .set))
 
 -- ---- the three ways of the code
 
--- a set that passes the record check has no line that is refused
-size-line : (s : FlowSet) → good (recordFault s .refusal) ≡ true → sizeFault s .line ≡ 0
+abbrev NamesNone : Fault → Type 0
+NamesNone f = (f .line ≡ 0) × (f .field ≡ 0)
+
+-- a set that passes the record check has no line that is refused, and no field
+size-names : (s : FlowSet) → good (recordFault s .refusal) ≡ true → NamesNone (sizeFault s)
 unfolding sizeFault
-size-line s g = rw g (go (neitherAdmits s) (startsLate s) (ltb mostHyper (hyper s)))
+size-names s g = rw g (go (neitherAdmits s) (startsLate s) (ltb mostHyper (hyper s)))
   where
     go : (a b c : Bool)
-        → cond a (faultAt NotAdmitted 0) (cond b (faultAt LateStart 0) (cond c (faultAt LongHyperPeriod 0) noFault)) .line ≡ 0
-    go true b c = refl
-    go false true c = refl
-    go false false true = refl
-    go false false false = refl
+        → NamesNone (cond a (faultAt NotAdmitted 0) (cond b (faultAt LateStart 0) (cond c (faultAt LongHyperPeriod 0) noFault)))
+    go true b c = (refl, refl)
+    go false true c = (refl, refl)
+    go false false true = (refl, refl)
+    go false false false = (refl, refl)
 
 module _ (input : List ℕ) where
   pub loads-long : ltb mostInput (length input) ≡ true → Loads input (notLoaded (faultAt NoRoom 0))
   loads-long e =
-      record { fault = rw e; line = omega arith; set = λ h. absurd (false≢true h); slots = λ h. absurd (false≢true h) }
+      record { fault = rw e; line = omega arith; field = omega arith; set = λ h. absurd (false≢true h); slots = λ h. absurd (false≢true h) }
 
   module _ (e : ltb mostInput (length input) ≡ false) (r : Reading) (q : r ≡ readText input) where
     pub loads-refused : good (r .fault .refusal) ≡ false → Loads input (notLoaded (r .fault))
@@ -58,6 +62,7 @@ module _ (input : List ℕ) where
         record {
           fault = rw (e, ← q, b);
           line = rw q (read-line-le input);
+          field = rw q (omega (arith, field-le input, ltb-false mostInput (length input) e));
           set = λ h. absurd (false≢true (sym b ∙ h));
           slots = λ h. absurd (false≢true (sym b ∙ h));
         }
@@ -67,9 +72,11 @@ module _ (input : List ℕ) where
     loads-sized g a f =
         let s = used (r .set) in
         let k : a .fault ≡ sizeFault s = ap (λ (a : Tabled). a .fault) f ∙ size-fault s in
+        let n = size-names s (rw q (text-passes input (rw (← q) g))) in
         record {
           fault = k ∙ rw (e, ← q, g);
-          line = rw (k, size-line s (rw q (text-passes input (rw (← q) g)))) (omega arith);
+          line = rw (k, n .0) (omega arith);
+          field = rw (k, n .1) (omega arith);
           set = λ h. ap (λ (r : Reading). r .set) q;
           slots = λ h. ap (λ (a : Tabled). a .hyper) (size-passes s a f h .answer);
         }

@@ -27,7 +27,7 @@ abbrev pub partRoom : ℕ → ℕ
 partRoom i = 65536
 
 abbrev pub mostRefusal : ℕ
-mostRefusal = 32
+mostRefusal = 48
 
 -- n parts together are the lines of h slots
 abbrev pub WholeTable : FlowSet → ℕ → Wrote → Type 0
@@ -91,7 +91,7 @@ module _ (input : List ℕ) (r : Loaded) (l : Loads input r) (w : Wrote) where
 
 -- a refusal's line has room
 pub refusal-left : (f : Fault) (n : ℕ) → n ≡ refusalNumber (f .refusal) → {o out : List ℕ} {r : ℕ} → mostRefusal ≤ length o
-    → Put o 0 (lineOf refusedWord (n ∷ f .line ∷ [])) out r → (take r out ≡ refusedLine f) × (r ≤ mostRefusal)
+    → Put o 0 (lineOf refusedWord (n ∷ f .line ∷ f .field ∷ [])) out r → (take r out ≡ refusedLine f) × (r ≤ mostRefusal)
 refusal-left f n e h p =
-    let a = line-le refusedWord (n ∷ f .line ∷ []) in
+    let a = line-le refusedWord (n ∷ f .line ∷ f .field ∷ []) in
     (put-read p (omega (arith, a)) (omega (arith, a)) ∙ refused-line f n e, omega (arith, a, put-length p (omega (arith, a))))

@@ -3,14 +3,14 @@ mod loading;
 
 ghost use mathlib.Core.Bool.{true};
 ghost use mathlib.Core.Path.{_≡_};
-ghost use Prim.Native.Nat.{_≤_};
+ghost use Prim.Native.Nat.{_+_, _≤_};
 ghost use lib.ListN.{length, take};
 ghost use Rattle.model.specs.Refusals.{good};
 ghost use Rattle.model.specs.Sets.{used};
-ghost use Rattle.document.specs.Program.{refusedLine};
+ghost use Rattle.document.specs.Program.{mostInput, refusedLine};
 ghost use Rattle.document.specs.Reader.{recordFault};
 ghost use Rattle.document.specs.Superframe.{mostHyper};
-ghost use Rattle.text.specs.NamedLine.{lastLine};
+ghost use Rattle.laws.specs.LinesRead.{lastLine};
 ghost use Rattle.superframe.specs.Prints.{NoTable, Prints, WholeTable, mostRefusal};
 use crate::loading::MOST_INPUT;
 use crate::loading::load;
@@ -22,7 +22,7 @@ use standard_input::Input;
 use standard_input::read_input;
 
 // No refusal's line has more bytes.
-const MOST_REFUSAL: usize = 32;
+const MOST_REFUSAL: usize = 48;
 
 // What came of writing: so many parts of the table, the line of the refusal, or a write that failed.
 pub enum Wrote {
@@ -54,16 +54,22 @@ fn write_parts(set: FlowSet, hyper: u32) -> Wrote
 
 // The line of a refusal in a buffer that has room for it.
 fn refusal_line(fault: Fault, out: &mut [u8]) -> usize
-    requires { ⌜ (fault .line ≤ lastLine) × (mostRefusal ≤ length (now out)) ⌝ }
+    requires { ⌜ (fault .line ≤ lastLine) × (fault .field ≤ mostInput + 1) × (mostRefusal ≤ length (now out)) ⌝ }
     ensures { λ r. ⌜ (take r (now (out .exit)) ≡ refusedLine fault) × (r ≤ mostRefusal) ⌝ }
 {
     let refusal = fault.refusal;
-    text::put_refused(out, 0, refusal.code() as u32, fault.line as u32)
+    text::put_refused(
+        out,
+        0,
+        refusal.code() as u32,
+        fault.line as u32,
+        fault.field as u32,
+    )
 }
 
 // Writes the line of a refusal.
 fn write_refusal(fault: Fault) -> Wrote
-    requires { ⌜ fault .line ≤ lastLine ⌝ }
+    requires { ⌜ (fault .line ≤ lastLine) × (fault .field ≤ mostInput + 1) ⌝ }
     ensures { λ r. ⌜ NoTable r ⌝ }
 {
     let mut out = [0u8; MOST_REFUSAL];

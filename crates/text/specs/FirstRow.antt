@@ -11,27 +11,20 @@ use Rattle.model.specs.declared.kinds.FlowSet.{FlowSet}
 use Rattle.model.specs.declared.answers.Refusal.{Refusal}
 use Rattle.model.specs.declared.answers.Refusal.the-variants.{BadForm}
 use Rattle.model.specs.Refusals.{refusalNumber, good}
-use Rattle.document.specs.Reader.{mapFault, firstLineFault, refusedReading, readFlows, setOf, readLines, readText}
+use Rattle.document.specs.BadField.{fieldOf}
+use Rattle.document.specs.Reader.{mapFault, firstLineFault, firstLineField, refusedReading, readFlows, setOf, readLines, readText}
 use Rattle.model.specs.Sets.{blankSet}
 use Rattle.document.specs.Text.{setWord, same, lines, fields, wellFormed, numbersOf}
 use Rattle.laws.specs.SumLaws.{and-l}
+use Rattle.laws.specs.LinesRead.{first-good, first-bad}
 use Rattle.text.specs.Places.{line, after}
-use Rattle.text.specs.Fields.{lines-line, formed-line, numbers-line, drop-line}
+use Rattle.text.specs.Fields.{lines-line, fields-line, formed-line, numbers-line, drop-line}
 use Rattle.text.specs.declared.line.Row.{Row}
 use Rattle.text.specs.Row.{mostNumbers, rowIf, rowIn}
-use Rattle.text.specs.RowFaults.{firstRowFault}
+use Rattle.text.specs.RowFaults.{firstRowFault, firstBad}
 use Rattle.text.specs.PaddedEntries.{pad-at}
 use Rattle.text.specs.RowFaults.{setWith, readingOf}
 use Rattle.text.specs.FlowRows.{formed-first, row-formed}
-
--- the first line judged
-pub first-good : (l : List ℕ) (ls : List (List ℕ)) → good (firstLineFault l) ≡ true → readLines (l ∷ ls) ≡ readFlows (setOf l) ls
-unfolding readLines
-first-good l ls h = rw (readLines, h)
-
-pub first-bad : (l : List ℕ) (ls : List (List ℕ)) → good (firstLineFault l) ≡ false → readLines (l ∷ ls) ≡ refusedReading (firstLineFault l) 1
-unfolding readLines
-first-bad l ls h = rw (readLines, h)
 
 pub first-judged : (from : ℕ) (t : List ℕ) → firstRowFault (rowIn setWord from t) ≡ firstLineFault (line t)
 unfolding rowIn firstLineFault
@@ -40,6 +33,11 @@ first-judged from t = rw (formed-line setWord t, numbers-line t) (go (wellFormed
     go : (b : Bool) → firstRowFault (rowIf b from t) ≡ cond (b && eqb (length (numbersOf t)) 1) (mapFault (getD (numbersOf t) 0 0)) BadForm
     go true = rw (pad-at mostNumbers (numbersOf t) 0 (omega arith))
     go false = refl
+
+-- and its field
+first-field : (b : ℕ) (t : List ℕ) (x : Refusal) → x ≡ firstLineFault (line (b ∷ t)) → fieldOf x (firstBad (b ∷ t)) 0 ≡ firstLineField (line (b ∷ t))
+unfolding firstLineField
+first-field b t x e = rw (← e, fields-line (b ∷ t), ne-eqb (length (b ∷ t)) 0 (λ q. omega arith))
 
 -- a first line that no rule refuses
 pub first-formed : (l : List ℕ) → good (firstLineFault l) ≡ true → wellFormed setWord l ≡ true
@@ -52,15 +50,16 @@ unfolding readText
 first-lines b t = ap readLines (lines-line b t)
 
 pub first-refused : (s : List ℕ) (w : Row) → w ≡ rowIn setWord 0 s → (x : Refusal) → x ≡ firstRowFault w → (refusalNumber x ≡ 0 → ⊥)
-    → (u : FlowSet) → u ≡ blankSet → readingOf x 1 u ≡ readText s
+    → (f : ℕ) → f ≡ fieldOf x (firstBad s) 0 → (u : FlowSet) → u ≡ blankSet → readingOf x 1 f u ≡ readText s
 unfolding readText readLines lines rowIn wellFormed fields same
-first-refused [] w q x e b u v = ap (readingOf x 1) v ∙ ap (λ (y : Refusal). refusedReading y 1) (e ∙ ap firstRowFault q)
-first-refused (c ∷ t) w q x e b u v =
+first-refused [] w q x e b f p u v =
+    ap (readingOf x 1 f) v ∙ rw p (ap (λ (y : Refusal). refusedReading y 1 (fieldOf y 0 0)) (e ∙ ap firstRowFault q))
+first-refused (c ∷ t) w q x e b f p u v =
     let j = e ∙ ap firstRowFault q ∙ first-judged 0 (c ∷ t) in
-    ap (readingOf x 1) v
+    ap (readingOf x 1 f) v
     ∙ sym
     (first-lines c t ∙ first-bad (line (c ∷ t)) _ (subst (λ (y : Refusal). good y ≡ false) j (ne-eqb (refusalNumber x) 0 b))
-    ∙ ap (λ (y : Refusal). refusedReading y 1) (sym j))
+    ∙ rw (sym (first-field c t x j) ∙ sym p, ← j))
 
 pub first-read : (s : List ℕ) (w : Row) → w ≡ rowIn setWord 0 s → (x : Refusal) → x ≡ firstRowFault w → refusalNumber x ≡ 0
     → readFlows (setWith (getD (w .numbers) 0 0)) (lines (drop (w .next) s)) ≡ readText s

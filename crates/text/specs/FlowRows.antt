@@ -1,11 +1,11 @@
 -- A row says of its line what the definitions say of the line itself, so one pass over rows gives the reader's answer.
 use mathlib.Core.Path.{_≡_, refl, sym, ap, subst, _∙_}
-use mathlib.Core.Bool.{Bool, true, false, _&&_, cond, or-true, false≢true}
+use mathlib.Core.Bool.{Bool, true, false, _&&_, _||_, cond, or-true, false≢true}
 use mathlib.Core.List.{List, [], _∷_}
 use Prim.Native.Nat.{ℕ, suc, _+_, _-_, _<_, _≤_}
 use native.Mathlib.Decide.{decLe}
 use native.Mathlib.Omega.{arith}
-use lib.Dec.{leb, ltb}
+use lib.Dec.{leb, ltb, eqb}
 use lib.ListN.{length, getD, take, drop, set, length-drop, length-set, drop-of-length-le}
 use lib.Seq.{drop-cons}
 use borrow.Author.Tests.{leb-true, lt-ltb, eq-eqb, ne-eqb}
@@ -14,51 +14,67 @@ use Rattle.model.specs.declared.kinds.Flow.{Flow}
 use Rattle.model.specs.declared.kinds.FlowSet.{FlowSet}
 use Rattle.model.specs.declared.answers.Reading.{Reading}
 use Rattle.model.specs.declared.answers.Refusal.{Refusal}
-use Rattle.model.specs.declared.answers.Refusal.the-variants.{BadForm}
+use Rattle.model.specs.declared.answers.Refusal.the-variants.{BadForm, TooManyFlows, BadPeriod, BadDeadline, BadTries, BadRoute}
 use Rattle.model.specs.Limits.{mostFlows, mostNodes}
 use Rattle.model.specs.Refusals.{refusalNumber, good}
-use Rattle.document.specs.Reader.{flowFault, pad, flowOf, withFlow, flowLineFault, refusedReading, accepted, readFlows}
+use Rattle.document.specs.BadField.{breaksFlow, badField, fieldOf}
+use Rattle.document.specs.Reader.{repeatAt, flowFault, pad, flowOf, withFlow, flowLineFault, flowLineField, accepted, readFlows}
 use Rattle.model.specs.Sets.{blankSet}
 use Rattle.document.specs.Text.{flowWord, lines, wellFormed, numbersOf}
+use Rattle.laws.specs.LinesRead.{read-good, read-bad}
 use Rattle.laws.specs.Accepted.{GoodFlow, good-flow}
 use Rattle.laws.specs.SumLaws.{and-l, and-r}
 use Rattle.text.specs.declared.line.Row.{Row}
 use Rattle.text.specs.Row.{mostNumbers, rowIf, rowIn}
 use Rattle.text.specs.Places.{line, after}
-use Rattle.text.specs.Fields.{lines-line, formed-line, numbers-line, drop-line}
-use Rattle.text.specs.RowFaults.{nodesOf, flowRowFault}
+use Rattle.text.specs.Fields.{lines-line, fields-line, formed-line, numbers-line, drop-line}
+use Rattle.text.specs.RowFaults.{nodesOf, flowRowFault, rowRepeat}
 use Rattle.text.specs.PaddedEntries.{pad-at, pad-drop}
 use Rattle.text.specs.RowFaults.{flowOfRow, setWith, readingOf}
 use Rattle.laws.specs.Padded.{pad-take}
-
--- a line read after the flows of t
-pub read-good : (t : FlowSet) (l : List ℕ) (ls : List (List ℕ)) → good (flowLineFault (t .count) l) ≡ true
-    → readFlows t (l ∷ ls) ≡ readFlows (withFlow t (flowOf (numbersOf l))) ls
-unfolding readFlows
-read-good t l ls h = rw (readFlows, h)
-
-pub read-bad : (t : FlowSet) (l : List ℕ) (ls : List (List ℕ)) → good (flowLineFault (t .count) l) ≡ false
-    → readFlows t (l ∷ ls) ≡ refusedReading (flowLineFault (t .count) l) (t .count + 2)
-unfolding readFlows
-read-bad t l ls h = rw (readFlows, h)
 
 -- rule 7 refuses a route of more than 17 nodes, whatever they are
 pub route-beyond : (k t d c n : ℕ) (r q : List ℕ) → mostNodes < n → flowFault k t d c n r ≡ flowFault k t d c n q
 unfolding flowFault
 route-beyond k t d c n r q h = rw (lt-ltb mostNodes n h, or-true (ltb n 2))
 
+-- so that no node's field is named
+field-beyond : (k t d c n : ℕ) (r : List ℕ) (bad e q : ℕ) → mostNodes < n → fieldOf (flowFault k t d c n r) bad e ≡ fieldOf (flowFault k t d c n r) bad q
+unfolding flowFault
+field-beyond k t d c n r bad e q h =
+    rw (lt-ltb mostNodes n h, or-true (ltb n 2)) (go (leb mostFlows k) (eqb t 0) (eqb d 0 || ltb t d) (eqb c 0 || ltb 4 c))
+  where
+    go : (w x y z : Bool) → fieldOf (cond w TooManyFlows (cond x BadPeriod (cond y BadDeadline (cond z BadTries BadRoute)))) bad e
+        ≡ fieldOf (cond w TooManyFlows (cond x BadPeriod (cond y BadDeadline (cond z BadTries BadRoute)))) bad q
+    go true x y z = refl
+    go false true y z = refl
+    go false false true z = refl
+    go false false false true = refl
+    go false false false false = refl
+
 -- as far as the array holds them a row's nodes are the line's
-pub nodes-fault : (k t d c : ℕ) (vs : List ℕ)
-    → flowFault k t d c (length vs - 4) (take (length vs - 4) (nodesOf (pad mostNumbers vs))) ≡ flowFault k t d c (length vs - 4) (drop 4 vs)
-nodes-fault k t d c vs =
-    ap (λ (r : List ℕ). flowFault k t d c (length vs - 4) (take (length vs - 4) r)) (pad-drop 4 mostNodes vs)
-    ∙ elim (decLe (length vs - 4) mostNodes) [
-      | yes h ↦ ap (flowFault k t d c (length vs - 4)) (go (length vs - 4) (sym (length-drop 4 vs)) h)
-      | no h ↦ route-beyond k t d c (length vs - 4) _ _ (omega arith)
-    ]
+nodes-kept : (vs : List ℕ) → length vs - 4 ≤ mostNodes → take (length vs - 4) (nodesOf (pad mostNumbers vs)) ≡ drop 4 vs
+nodes-kept vs h = ap (take (length vs - 4)) (pad-drop 4 mostNodes vs) ∙ go (length vs - 4) (sym (length-drop 4 vs)) h
   where
     go : (n : ℕ) → n ≡ length (drop 4 vs) → n ≤ mostNodes → take n (pad mostNodes (drop 4 vs)) ≡ drop 4 vs
     go n e h = rw e (pad-take mostNodes (drop 4 vs) (omega arith))
+
+pub nodes-fault : (k t d c : ℕ) (vs : List ℕ)
+    → flowFault k t d c (length vs - 4) (take (length vs - 4) (nodesOf (pad mostNumbers vs))) ≡ flowFault k t d c (length vs - 4) (drop 4 vs)
+nodes-fault k t d c vs =
+    elim (decLe (length vs - 4) mostNodes) [
+      | yes h ↦ ap (flowFault k t d c (length vs - 4)) (nodes-kept vs h)
+      | no h ↦ route-beyond k t d c (length vs - 4) _ _ (omega arith)
+    ]
+
+nodes-field : (k t d c : ℕ) (r : List ℕ) (bad : ℕ) (vs : List ℕ)
+    → fieldOf (flowFault k t d c (length vs - 4) r) bad (repeatAt (take (length vs - 4) (nodesOf (pad mostNumbers vs))))
+    ≡ fieldOf (flowFault k t d c (length vs - 4) r) bad (repeatAt (drop 4 vs))
+nodes-field k t d c r bad vs =
+    elim (decLe (length vs - 4) mostNodes) [
+      | yes h ↦ ap (λ (q : List ℕ). fieldOf (flowFault k t d c (length vs - 4) r) bad (repeatAt q)) (nodes-kept vs h)
+      | no h ↦ field-beyond k t d c (length vs - 4) r bad _ _ (omega arith)
+    ]
 
 pub flow-judged : (k from : ℕ) (t : List ℕ) → flowRowFault k (rowIn flowWord from t) ≡ flowLineFault k (line t)
 unfolding rowIn flowLineFault
@@ -75,6 +91,24 @@ flow-judged k from t = rw (formed-line flowWord t, numbers-line t) (go (wellForm
           nodes-fault k (getD vs 0 0) (getD vs 1 0) (getD vs 3 0) vs,
         )
     go false vs e = refl
+
+-- and its field
+pub flow-field : (k from : ℕ) (t : List ℕ)
+    → fieldOf (flowRowFault k (rowIn flowWord from t)) (badField breaksFlow t) (rowRepeat (rowIn flowWord from t)) ≡ flowLineField k (line t)
+unfolding flowLineField rowIn
+flow-field k from t = rw (← flow-judged k from t, fields-line t, numbers-line t) (go (wellFormed flowWord t))
+  where
+    bad : ℕ
+    bad = badField breaksFlow t
+
+    part : (b : Bool) (x : Refusal) (e q : ℕ) → fieldOf x bad e ≡ fieldOf x bad q → fieldOf (cond b x BadForm) bad e ≡ fieldOf (cond b x BadForm) bad q
+    part true x e q h = h
+    part false x e q h = refl
+
+    go : (b : Bool) → fieldOf (flowRowFault k (rowIf b from t)) bad (rowRepeat (rowIf b from t))
+        ≡ fieldOf (flowRowFault k (rowIf b from t)) bad (repeatAt (drop 4 (numbersOf t)))
+    go true = part (leb 4 (length (numbersOf t))) _ _ _ (nodes-field k _ _ _ _ bad (numbersOf t))
+    go false = refl
 
 -- the flow that a line's numbers are judged as
 abbrev pub judgedFlow : List ℕ → Flow
@@ -196,13 +230,20 @@ module _ {s : List ℕ} {r : Reading} {at k : ℕ} {t : FlowSet} {w : Row} {x : 
       ∙ sym (flow-judged k at (drop at s))
       ∙ sym (l .refusal-is ∙ ap (flowRowFault k) (l .row-is))
 
-  pub lines-refused : (b : FlowSet) → b ≡ blankSet → (refusalNumber x ≡ 0 → ⊥) → readingOf x (k + 2) b ≡ r
-  lines-refused u v b =
-      ap (readingOf x (k + 2)) v
+  field-judged : flowLineField (t .count) (line (drop at s)) ≡ fieldOf x (badField breaksFlow (drop at s)) (rowRepeat w)
+  field-judged =
+      ap (λ (n : ℕ). flowLineField n (line (drop at s))) (l .so-far .many)
+      ∙ sym (flow-field k at (drop at s))
+      ∙ rw (← l .row-is, ← l .refusal-is)
+
+  pub lines-refused : (f : ℕ) → f ≡ fieldOf x (badField breaksFlow (drop at s)) (rowRepeat w) → (b : FlowSet) → b ≡ blankSet
+      → (refusalNumber x ≡ 0 → ⊥) → readingOf x (k + 2) f b ≡ r
+  lines-refused f p u v b =
+      ap (readingOf x (k + 2) f) v
       ∙ sym
       (l .so-far .left ∙ ap (readFlows t) next
       ∙ read-bad t (line (drop at s)) _ (subst (λ (y : Refusal). good y ≡ false) (sym judged) (ne-eqb (refusalNumber x) 0 b))
-      ∙ rw (judged, l .so-far .many))
+      ∙ rw (field-judged ∙ sym p, judged, l .so-far .many))
 
   pub lines-good : refusalNumber x ≡ 0 → GoodRow k (drop at s) w at
   lines-good b =

@@ -11,6 +11,7 @@ pub mod Fields
 pub mod FlowNumbers
 pub mod DigitsRead
 pub mod Rows
+pub mod FieldSearch
 pub mod Put
 pub mod WrittenRows
 pub mod FlowRows

@@ -13,6 +13,7 @@ use Rattle.model.specs.declared.answers.Refusal.the-variants.{BadForm}
 use Rattle.model.specs.Refusals.{good, faultAt, noFault}
 use Rattle.document.specs.Superframe.{rowFormed, rowOf, above, linesFault, formFault}
 use Rattle.document.specs.Text.{lines, fields, valuesOf}
+use Rattle.laws.specs.WrittenNumbers.{values-length}
 use Rattle.text.specs.declared.table.Judged.{Judged}
 use Rattle.text.specs.declared.table.RowRead.the-variants.{Found, Bad}
 use Rattle.text.specs.Places.{line, after}
@@ -50,11 +51,6 @@ least-after (t ∷ q) e h r k = go t (getD q 2 0) (getD r 0 0) (getD r 3 0) h k 
 row-line : (t : List ℕ) → (rowFormed (line t) ≡ rowFormed t) × (rowOf (line t) ≡ rowOf t)
 unfolding rowFormed rowOf
 row-line t = (rw (fields-line t, ended-line t), rw (fields-line t))
-
-values-length : (fs : List (List ℕ)) → length (valuesOf fs) ≡ length fs
-unfolding valuesOf
-values-length [] = refl
-values-length (f ∷ fs) = ap suc (values-length fs)
 
 -- the numbers of a line of the form
 pub record RowNumbers (r : List ℕ) : Type 0 where

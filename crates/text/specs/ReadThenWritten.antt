@@ -18,12 +18,13 @@ use Rattle.model.specs.Refusals.{good}
 use Rattle.model.specs.Sets.{exact, used}
 use Rattle.document.specs.Reader.{pad, flowOf, withFlow, firstLineFault, flowLineFault, readFlows, setOf, readLines, readText, flowNumbers, flowLines, textOf}
 use Rattle.document.specs.Text.{setWord, flowWord, onto, lines, wellFormed, numbersOf, decimal, lineOf}
+use Rattle.laws.specs.LinesRead.{read-good, read-bad, first-good, first-bad}
 use Rattle.laws.specs.SumLaws.{and-l, and-r}
 use Rattle.text.specs.Places.{line}
 use Rattle.text.specs.Decimals.{decimal-one}
 use Rattle.text.specs.Put.{fieldsOf, line-parts}
-use Rattle.text.specs.FlowRows.{read-good, read-bad, formed-first, good-line}
-use Rattle.text.specs.FirstRow.{first-good, first-bad, first-formed}
+use Rattle.text.specs.FlowRows.{formed-first, good-line}
+use Rattle.text.specs.FirstRow.{first-formed}
 use Rattle.text.specs.Numerals.{decimal-five}
 use Rattle.text.specs.WrittenLines.{small, line-back, line-small}
 use Rattle.laws.specs.Padded.{pad-take}

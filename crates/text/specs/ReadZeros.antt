@@ -16,8 +16,8 @@ use Rattle.model.specs.Sets.{noFlow, blankFlow, blankSet, flowAt}
 use Rattle.document.specs.Reader.{Zeroed, pad, flowOf, withFlow, firstLineFault, flowLineFault, readFlows, setOf, readLines, readText}
 use Rattle.document.specs.Text.{lines, numbersOf}
 use Rattle.text.specs.PaddedEntries.{pad-at}
-use Rattle.text.specs.FlowRows.{read-good, read-bad, good-line}
-use Rattle.text.specs.FirstRow.{first-good, first-bad}
+use Rattle.text.specs.FlowRows.{good-line}
+use Rattle.laws.specs.LinesRead.{read-good, read-bad, first-good, first-bad}
 use Rattle.laws.specs.Padded.{pad-length}
 
 zeroed-none : (t : FlowSet) → t .count ≡ 0 → t .flows ≡ blankSet .flows → Zeroed t

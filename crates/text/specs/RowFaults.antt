@@ -1,10 +1,12 @@
--- The refusal of the first line by its row, rules 1 and 2; that of a flow line, rules 1 and 3 to 9, and the flow that its numbers make.
+-- The refusal of the first line by its row, rules 1 and 2; that of a flow line, rules 1 and 3 to 9, and the flow that its numbers make. And what
+-- the field of a refusal is found from.
 use mathlib.Core.Bool.{_&&_, cond}
 use lib.Dec.{eqb, leb}
-use lib.ListN.{getD, take, drop}
+use lib.ListN.{length, getD, take, drop}
 use Rattle.model.specs.declared.answers.Refusal.{Refusal}
 use Rattle.model.specs.declared.answers.Refusal.the-variants.{BadForm}
-use Rattle.document.specs.Reader.{mapFault, flowFault, pad}
+use Rattle.document.specs.Reader.{mapFault, repeatAt, flowFault, pad}
+use Rattle.document.specs.BadField.{breaksFirst, badField}
 use Rattle.text.specs.declared.line.Row.{Row}
 use mathlib.Core.List.{List}
 use Prim.Native.Nat.{ℕ, _-_}
@@ -12,7 +14,7 @@ use Rattle.model.specs.declared.kinds.Flow.{Flow}
 use Rattle.model.specs.Limits.{mostNodes}
 use Rattle.model.specs.declared.kinds.FlowSet.{FlowSet}
 use Rattle.model.specs.declared.answers.Reading.{Reading}
-use Rattle.model.specs.Refusals.{faultAt}
+use Rattle.model.specs.Refusals.{faultIn}
 use Rattle.model.specs.Sets.{blankSet}
 
 -- the first line's refusal
@@ -27,12 +29,24 @@ numberAt r i = getD (r .numbers) i 0
 abbrev pub nodesOf : List ℕ → List ℕ
 nodesOf ns = pad mostNodes (drop 4 ns)
 
+-- the nodes of a row, as far as the array holds them
+abbrev pub rowNodes : Row → List ℕ
+rowNodes r = take (r .count - 4) (nodesOf (r .numbers))
+
 -- the refusal of the line of flow number k
 abbrev pub flowRowFault : ℕ → Row → Refusal
 flowRowFault k r =
     cond (r .formed && leb 4 (r .count))
-    (flowFault k (numberAt r 0) (numberAt r 1) (numberAt r 3) (r .count - 4) (take (r .count - 4) (nodesOf (r .numbers))))
+    (flowFault k (numberAt r 0) (numberAt r 1) (numberAt r 3) (r .count - 4) (rowNodes r))
     BadForm
+
+-- the place of the first node of a row that equals the one just before it
+abbrev pub rowRepeat : Row → ℕ
+rowRepeat r = repeatAt (rowNodes r)
+
+-- the first field that breaks the form of a text's first line; an empty text has none
+abbrev pub firstBad : List ℕ → ℕ
+firstBad s = cond (eqb (length s) 0) 0 (badField breaksFirst s)
 
 -- the flow of a row's numbers, with n nodes
 abbrev pub flowWith : List ℕ → ℕ → Flow
@@ -55,5 +69,5 @@ abbrev pub setWith : ℕ → FlowSet
 setWith m = record { map = record { 0 = m }; count = 0; flows = blankSet .flows }
 
 -- an answer of these parts
-abbrev pub readingOf : Refusal → ℕ → FlowSet → Reading
-readingOf r n s = record { fault = faultAt r n; set = s }
+abbrev pub readingOf : Refusal → ℕ → ℕ → FlowSet → Reading
+readingOf r n f s = record { fault = faultIn r n f; set = s }

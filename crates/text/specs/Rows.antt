@@ -328,7 +328,7 @@ pub spelling-start : (s w : List ℕ) (from : ℕ) → Spelling s w from 0 from
 spelling-start s w from = record { left = refl; place = omega arith; short = zero-le }
 
 module _ (s w : List ℕ) (from i at : ℕ) (inv : Spelling s w from i at) where
-  spelled : i < length w → starts w (drop from s) ≡ (begins (getD w i 0) (drop at s) && starts (drop (suc i) w) (drop 1 (drop at s)))
+  pub spelled : i < length w → starts w (drop from s) ≡ (begins (getD w i 0) (drop at s) && starts (drop (suc i) w) (drop 1 (drop at s)))
   unfolding starts
   spelled h = inv .left ∙ rw (drop-cons w i 0 h)
 

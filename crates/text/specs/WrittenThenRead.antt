@@ -22,8 +22,7 @@ use Rattle.laws.specs.Accepted.{good-flow, good-flows, or-else-good, accepted a
 use Rattle.laws.specs.SumLaws.{and-l, and-r}
 use Rattle.laws.specs.Used.{used-flow, used-count, used-map}
 use Rattle.text.specs.HeldByCode.{HeldFlow, HeldRecord}
-use Rattle.text.specs.FlowRows.{read-good}
-use Rattle.text.specs.FirstRow.{first-good}
+use Rattle.laws.specs.LinesRead.{read-good, first-good}
 use Rattle.text.specs.SetLines.{used-length}
 use Rattle.text.specs.WrittenLines.{inside, small, LineReads, line-written}
 use Rattle.text.specs.ReadThenWritten.{RoomForFlows, room-with, room-first, used-with}

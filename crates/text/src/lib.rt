@@ -1,5 +1,6 @@
 // Document 01's text: the reader and the writer of flow sets, and what puts lines into a lent buffer.
 mod digits;
+mod field;
 mod line;
 mod put;
 mod reader;

@@ -55,7 +55,7 @@ pub fn byte_at(s: &[u8], at: usize) -> u8
 }
 
 // How the byte at a place goes on with a number; the text's end ends it.
-fn look_at(s: &[u8], at: usize) -> u32
+pub fn look_at(s: &[u8], at: usize) -> u32
     ensures { λ r. ⌜ (r ≡ lookAt (drop at (now (s .entry)))) × (r ≤ 11) ⌝ }
 {
     if at < s.len() { look_byte(s[at]) } else { 10 }
@@ -66,7 +66,7 @@ const MOST_DIGITS: usize = 5;
 
 // The number at a place: decimal, without sign or leading zero, at most 65,535, ended by a tab, an LF or the text's end. Its digits are counted as
 // they come and its value is tested once, behind them: that is quicker than a test of the value at each digit.
-fn number_at(s: &[u8], from: usize) -> NumberRead
+pub fn number_at(s: &[u8], from: usize) -> NumberRead
     ensures { λ r. ⌜ numberSays r ≡ numberIn from (first (drop from (now (s .entry)))) ⌝ }
 {
     let mut i = from;
@@ -157,7 +157,7 @@ fn is_byte(b: u8, c: u8) -> bool
 }
 
 // Whether byte c of a word stands at a place.
-fn begins(s: &[u8], at: usize, c: u8) -> bool
+pub fn begins(s: &[u8], at: usize, c: u8) -> bool
     ensures { λ r. ⌜ r ≡ begins c (drop at (now (s .entry))) ⌝ }
 {
     if at < s.len() {

@@ -85,11 +85,11 @@ pub fn put_line(out: &mut [u8], at: usize, word: &[u8], numbers: &[u32]) -> usiz
     put_byte(out, end, 10)
 }
 
-// The line of a refusal: its number and the text's line. A fault's line that fits 32 bits is the caller's to show.
-pub fn put_refused(out: &mut [u8], at: usize, refusal: u32, line: u32) -> usize
-    ensures { λ r. ⌜ Put (now (out .entry)) at (lineOf refusedWord (refusal ∷ line ∷ [])) (now (out .exit)) r ⌝ }
+// The line of a refusal: its number, the text's line and that line's field. That a fault's line and field fit 32 bits is the caller's to show.
+pub fn put_refused(out: &mut [u8], at: usize, refusal: u32, line: u32, field: u32) -> usize
+    ensures { λ r. ⌜ Put (now (out .entry)) at (lineOf refusedWord (refusal ∷ line ∷ field ∷ [])) (now (out .exit)) r ⌝ }
 {
-    let numbers = [refusal, line];
+    let numbers = [refusal, line, field];
     put_line(out, at, b"refused", &numbers)
 }
 

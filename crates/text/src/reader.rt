@@ -7,7 +7,9 @@ ghost use lib.ListN.{drop};
 ghost use Rattle.document.specs.Text.{flowWord, lines, setWord};
 ghost use Rattle.text.specs.Row.{rowIn};
 ghost use Rattle.document.specs.Reader.{readFlows, readText};
+ghost use Rattle.document.specs.FieldNamed.{ReaderNames};
 ghost use Rattle.model.specs.Limits.{mostFlows};
+use crate::field;
 use crate::line;
 use crate::line::Row;
 use model::ChannelMap;
@@ -19,7 +21,7 @@ use model::Refusal;
 use model::Span;
 
 // The nodes among a flow line's numbers.
-fn route_of(numbers: [u16; Row::MOST]) -> [u16; Flow::MOST_NODES]
+pub fn route_of(numbers: [u16; Row::MOST]) -> [u16; Flow::MOST_NODES]
     ensures { λ r. ⌜ r ≡ nodesOf numbers ⌝ }
 {
     let mut route = [0u16; Flow::MOST_NODES];
@@ -73,10 +75,14 @@ fn first_fault(row: Row) -> Refusal
 }
 
 // The reader's answer of these parts; a refusal comes with the blank set.
-fn reading_of(refusal: Refusal, line: usize, set: FlowSet) -> Reading
-    ensures { λ r. ⌜ r ≡ readingOf refusal line set ⌝ }
+fn reading_of(refusal: Refusal, line: usize, field: usize, set: FlowSet) -> Reading
+    ensures { λ r. ⌜ r ≡ readingOf refusal line field set ⌝ }
 {
-    let fault = Fault { refusal, line };
+    let fault = Fault {
+        refusal,
+        line,
+        field,
+    };
     Reading { fault, set }
 }
 
@@ -118,7 +124,8 @@ fn read_flows(text: &[u8], from: usize, map: u16) -> Reading
         let row = flow_row(text, at);
         let refusal = flow_fault(k, row);
         if refusal.code() != 0 {
-            return reading_of(refusal, line_number_of(k), blank);
+            let field = field::flow_field(text, at, refusal, row);
+            return reading_of(refusal, line_number_of(k), field, blank);
         }
         let flow = flow_of(row);
         set.flows[k] = flow;
@@ -126,7 +133,7 @@ fn read_flows(text: &[u8], from: usize, map: u16) -> Reading
         set.count = k as u16;
         at = row.next;
     }
-    reading_of(Refusal::Nothing, 0, set)
+    reading_of(Refusal::Nothing, 0, 0, set)
 }
 
 // The row of the first line.
@@ -136,16 +143,16 @@ fn set_row(text: &[u8]) -> Row
     line::line_at(text, 0, b"set")
 }
 
-// A text's set, or the first faulty line with its lowest refusal and the blank set.
+// A text's set, or the first faulty line with its lowest refusal and its bad field, and the blank set.
 pub fn read(text: &[u8]) -> Reading
     ensures { λ r. ⌜ r ≡ readText (now (text .entry)) ⌝ }
+    ensures { λ r. ⌜ ReaderNames (now (text .entry)) (r .fault) ⌝ }
 {
     let row = set_row(text);
     let refusal = first_fault(row);
     if refusal.code() != 0 {
-        let fault = Fault { refusal, line: 1 };
-        let set = FlowSet::blank();
-        return Reading { fault, set };
+        let field = field::first_field(text, refusal);
+        return reading_of(refusal, 1, field, FlowSet::blank());
     }
     read_flows(text, row.next, row.numbers[0])
 }

@@ -39,6 +39,7 @@ impl Judged {
         let fault = Fault {
             refusal: Refusal::BadForm,
             line: rows + 1,
+            field: 0,
         };
         Judged { fault, rows }
     }

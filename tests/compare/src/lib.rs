@@ -1,14 +1,37 @@
 //! The proved planner as Rust sees it: the exported functions, declared by hand, and safe functions over them.
 //! Nothing checks these declarations against the Rattle source but the comparison itself.
 
-use second::{Flow, Set, State};
+use second::{Flow, Refusal, Set, State};
 
-/// A refusal's number and line, both 0 where nothing is refused.
+/// A refusal's number, line and field, all 0 where nothing is refused.
 #[repr(C)]
 #[derive(Clone, Copy, Debug, PartialEq, Eq)]
 pub struct Fault {
     pub refusal: u32,
     pub line: usize,
+    pub field: usize,
+}
+
+impl From<Refusal> for Fault {
+    fn from(refusal: Refusal) -> Fault {
+        Fault { refusal: refusal.number.into(), line: refusal.line, field: refusal.field }
+    }
+}
+
+/// What the two functions over a table's lines answer, bytes or numbers: lines of a table have no field.
+#[repr(C)]
+#[derive(Clone, Copy, Debug, PartialEq, Eq)]
+pub struct Lined {
+    pub refusal: u32,
+    pub line: usize,
+    pub length: usize,
+}
+
+impl Lined {
+    /// Its refusal as one that names no field.
+    pub fn fault(&self) -> Fault {
+        Fault { refusal: self.refusal, line: self.line, field: 0 }
+    }
 }
 
 #[repr(C)]
@@ -134,15 +157,15 @@ extern "C" {
     fn probe_plan(input: *const u8, input_length: usize, out: *mut u8, length: usize) -> Written;
     fn probe_superframe_size(s: RawSet) -> Superframe;
     fn probe_superframe(s: RawSet, table: *mut u16, room: usize) -> Superframe;
-    // include/rembasuk.h: its answers begin with the refusal and the line, as a fault does.
+    // include/rembasuk.h: its answers over a set's text begin with the refusal, the line and the field, as a fault does.
     fn rembasuk_verdict(text: *const u8, length: usize) -> Verdict;
     fn rembasuk_bounds(text: *const u8, length: usize, flow: u32) -> Bounds;
     fn rembasuk_all_bounds(text: *const u8, length: usize, table: *mut u32, room: usize) -> Written;
     fn rembasuk_slot(text: *const u8, length: usize, state: *mut u8, state_length: usize, lines: *mut u8, lines_length: usize) -> Written;
     fn rembasuk_superframe_size(text: *const u8, length: usize) -> Superframe;
     fn rembasuk_superframe(text: *const u8, length: usize, table: *mut u16, room: usize) -> Superframe;
-    fn rembasuk_table_write(table: *const u16, numbers: usize, lines: *mut u8, room: usize) -> Written;
-    fn rembasuk_table_read(lines: *const u8, length: usize, table: *mut u16, room: usize) -> Written;
+    fn rembasuk_table_write(table: *const u16, numbers: usize, lines: *mut u8, room: usize) -> Lined;
+    fn rembasuk_table_read(lines: *const u8, length: usize, table: *mut u16, room: usize) -> Lined;
     fn rembasuk_channel(map: u32, slot: u32, offset: u32) -> u32;
 }
 
@@ -298,12 +321,12 @@ pub fn text_superframe(text: &[u8], table: &mut [u16]) -> Superframe {
 }
 
 /// A table's lines, at the start of a buffer.
-pub fn table_write(table: &[u16], lines: &mut [u8]) -> Written {
+pub fn table_write(table: &[u16], lines: &mut [u8]) -> Lined {
     unsafe { rembasuk_table_write(table.as_ptr(), table.len(), lines.as_mut_ptr(), lines.len()) }
 }
 
 /// The table of lines, at the start of a lent one; the length counts numbers.
-pub fn table_read(lines: &[u8], table: &mut [u16]) -> Written {
+pub fn table_read(lines: &[u8], table: &mut [u16]) -> Lined {
     unsafe { rembasuk_table_read(lines.as_ptr(), lines.len(), table.as_mut_ptr(), table.len()) }
 }
 

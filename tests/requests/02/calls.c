@@ -18,8 +18,8 @@ int main(int words, char **word)
     static uint8_t text[REMBASUK_INPUT_LENGTH + 1];
     size_t length = fread(text, 1, sizeof text, stdin), less = words > 1 ? strtoul(word[1], NULL, 10) : 0, room;
     rembasuk_superframe_answer size = rembasuk_superframe_size(text, length), a;
-    rembasuk_slot_answer w;
-    rembasuk_table_answer r;
+    rembasuk_lines_answer w;
+    rembasuk_rows_answer r;
     uint16_t *table, *again;
     uint8_t *lines;
     room = size.numbers > less ? size.numbers - less : 0;
@@ -31,7 +31,7 @@ int main(int words, char **word)
     }
     a = rembasuk_superframe(text, length, table, room);
     if (a.refusal != 0) {
-        printf("refused\t%lu\t%lu\n", (unsigned long)a.refusal, (unsigned long)a.line);
+        printf("refused\t%lu\t%lu\t%lu\n", (unsigned long)a.refusal, (unsigned long)a.line, (unsigned long)a.field);
         return a.hyper != 0 || a.numbers != 0 ? wrong("a refused answer is not blank") : 0;
     }
     if (size.refusal != 0 || size.hyper != a.hyper || size.numbers != a.numbers) {

@@ -4,13 +4,14 @@
 //! One section of document 01 stands in one module: the flow set in [`record`], refusals in [`check`] and [`read`],
 //! the writer in [`write`], the two delay tests in [`delay`], the slot machine in [`machine`], what C sees in
 //! [`host`], the plan program in [`plan`]. Request 2 of document 02 stands in [`superframe`], and in [`table`] what it
-//! says of lines. [`inputs`] draws sets, texts, records, states and tables from a seed, and [`slip`] keeps the wrong rules
-//! that the tests must catch.
+//! says of lines; request 3 in [`field`]. [`inputs`] draws sets, texts, records, states and tables from a seed, and [`slip`]
+//! keeps the wrong rules that the tests must catch.
 #![forbid(unsafe_code)]
 #![warn(missing_docs)]
 
 pub mod check;
 pub mod delay;
+pub mod field;
 pub mod host;
 pub mod inputs;
 pub mod machine;

@@ -25,10 +25,10 @@ pub fn plan(input: &[u8]) -> Vec<u8> {
     plan_of(&read.set)
 }
 
-/// The line of a refusal: `refused`, number, line.
+/// The line of a refusal: `refused`, number, line, field.
 pub(crate) fn refused(refusal: Refusal) -> Vec<u8> {
     let mut text = Vec::new();
-    put_line(&mut text, b"refused", &[i64::from(refusal.number), refusal.line as i64]);
+    put_line(&mut text, b"refused", &[i64::from(refusal.number), refusal.line as i64, refusal.field as i64]);
     text
 }
 

@@ -1,7 +1,9 @@
 //! Document 01, "The flow set" and "Refusal numbers": the reader, in one pass over the text.
 
 use crate::check::fault;
+use crate::field;
 use crate::record::{Flow, Refusal, Set, MOST_FLOWS, MOST_NODES};
+use crate::slip;
 
 /// How many numbers of a line are kept: T, D, a, κ and the nodes of the longest route. Further ones are only counted.
 const KEPT: usize = 4 + MOST_NODES;
@@ -17,32 +19,46 @@ pub struct Read {
 
 /// The reader: the first faulty line decides, and within it the lowest of 1 to 9 that applies.
 pub fn read(text: &[u8]) -> Read {
+    read_with::<{ slip::NONE }>(text)
+}
+
+/// The same with one of the wrong rules for the field put in for the tests of the tests.
+pub fn read_with<const SLIP: u8>(text: &[u8]) -> Read {
     let mut read = Read { refusal: Refusal::NONE, set: Set::BLANK };
-    if let Err(refusal) = fill(text, &mut read.set) {
-        read = Read { refusal, set: Set::BLANK };
+    if let Err(Faulty { number, line, at }) = fill(text, &mut read.set) {
+        let field = field::named::<SLIP>(number, line, &text[at..]);
+        read = Read { refusal: Refusal::in_field(number, line, field), set: Set::BLANK };
     }
     read
 }
 
+/// The first faulty line: its fault, its number and where it starts.
+struct Faulty {
+    number: u8,
+    line: usize,
+    at: usize,
+}
+
 /// Reads line by line into the set; what stands after a faulty line is never looked at.
-fn fill(text: &[u8], set: &mut Set) -> Result<(), Refusal> {
-    let first = line_at(text, 0, b"set").filter(|line| line.count == 1).ok_or(Refusal::at(1, 1))?;
+fn fill(text: &[u8], set: &mut Set) -> Result<(), Faulty> {
+    let faulty = |number| Faulty { number, line: 1, at: 0 };
+    let first = line_at(text, 0, b"set").filter(|line| line.count == 1).ok_or(faulty(1))?;
     if first.numbers[0] == 0 {
-        return Err(Refusal::at(2, 1));
+        return Err(faulty(2));
     }
     set.map = first.numbers[0];
     let mut at = first.next;
     while at < text.len() {
         let k = usize::from(set.count);
-        let number = k + 2;
-        let line = line_at(text, at, b"flow").filter(|line| line.count >= 4).ok_or(Refusal::at(1, number))?;
+        let faulty = |number| Faulty { number, line: k + 2, at };
+        let line = line_at(text, at, b"flow").filter(|line| line.count >= 4).ok_or(faulty(1))?;
         if k == MOST_FLOWS {
-            return Err(Refusal::at(3, number));
+            return Err(faulty(3));
         }
         let flow = flow_of(&line);
         let fault = fault(&flow);
         if fault != 0 {
-            return Err(Refusal::at(fault, number));
+            return Err(faulty(fault));
         }
         set.flows[k] = flow;
         set.count += 1;

@@ -15,22 +15,30 @@ pub const REFUSALS: usize = 20;
 /// The last refusal number that is made so far: request 2 of document 02 has 14 to 16.
 pub const LAST_MADE: usize = 16;
 
-/// A refusal: its number in document 01's table and the line it names; both 0 where nothing is refused.
+/// A refusal: its number in document 01's table, the line it names and the field of that line; all 0 where nothing is
+/// refused.
 #[derive(Clone, Copy, Debug, Default, PartialEq, Eq, Hash, PartialOrd, Ord)]
 pub struct Refusal {
     /// 1 to 19, or 0 for none.
     pub number: u8,
     /// The line counted from 1, in a text of any length; 0 for refusals 10 to 16.
     pub line: usize,
+    /// The field counted from 1, in a line of any length; 0 where none is named. Only the reader of a set names one.
+    pub field: usize,
 }
 
 impl Refusal {
     /// Nothing is refused.
-    pub const NONE: Refusal = Refusal { number: 0, line: 0 };
+    pub const NONE: Refusal = Refusal::at(0, 0);
 
-    /// The refusal of this number at this line.
+    /// The refusal of this number at this line, which names no field.
     pub const fn at(number: u8, line: usize) -> Refusal {
-        Refusal { number, line }
+        Refusal::in_field(number, line, 0)
+    }
+
+    /// The refusal of this number at this line and field.
+    pub const fn in_field(number: u8, line: usize, field: usize) -> Refusal {
+        Refusal { number, line, field }
     }
 
     /// Whether something is refused.

@@ -1,10 +1,12 @@
 //! Wrong rules, put in one at a time: the tests of the tests. Document 01's "Easy slips", then what its first section
-//! says "this paper decides", then what could be taken for requests 1 and 2 of document 02. A slip is a constant of the
-//! types [`PlannerWith`] and [`MachineWith`](crate::machine::MachineWith), of [`check_with`](crate::check::check_with), or
-//! of the functions of [`superframe`](crate::superframe), so the right rules ([`NONE`]) pay nothing for them.
+//! says "this paper decides", then what could be taken for requests 1 to 3 of document 02. A slip is a constant of the
+//! types [`PlannerWith`] and [`MachineWith`](crate::machine::MachineWith), of [`check_with`](crate::check::check_with) and
+//! [`read_with`](crate::read::read_with), or of the functions of [`superframe`](crate::superframe), so the right rules
+//! ([`NONE`]) pay nothing for them.
 
 use crate::delay::{Others, PlannerWith};
-use crate::record::{Flow, MOST_FLOWS};
+use crate::field::fields;
+use crate::record::{Flow, MOST_FLOWS, MOST_NODES};
 
 /// No slip: document 01's rules.
 pub const NONE: u8 = 0;
@@ -44,6 +46,20 @@ pub const PRODUCT: u8 = 16;
 pub const TABLE_CHANNEL: u8 = 17;
 /// A row of the table has the try for the transmission's number.
 pub const TRY_FOR_NUMBER: u8 = 18;
+/// Refusal 8 names the earlier of the two equal nodes.
+pub const EARLIER_NODE: u8 = 19;
+/// Refusal 5 names the period.
+pub const PERIOD_FOR_DEADLINE: u8 = 20;
+/// A missing LF names the line's last field.
+pub const LF_FIELD: u8 = 21;
+/// A number too many on the first line names the map.
+pub const MAP_FOR_SURPLUS: u8 = 22;
+/// An empty line has no field.
+pub const EMPTY_LINE: u8 = 23;
+/// No bad number is found behind as many fields as the longest good line has.
+pub const KEPT_FIELDS: u8 = 24;
+/// Fields are counted in 16 bits.
+pub const SHORT_COUNT: u8 = 25;
 
 /// Whether a slip is one of the equation's.
 pub(crate) const fn changes_value(slip: u8) -> bool {
@@ -115,4 +131,18 @@ pub(crate) fn link_once(flows: &[Flow], others: &mut [Others]) {
 /// Whether a node stands anywhere earlier in the route.
 pub(crate) fn node_twice(route: &[u16]) -> bool {
     (1..route.len()).any(|i| route[..i].contains(&route[i]))
+}
+
+/// The field that a refusal names with a slip in it, from the right one. The text begins with the line.
+pub(crate) fn field<const SLIP: u8>(number: u8, line: usize, text: &[u8], right: usize) -> usize {
+    match (SLIP, number) {
+        (EARLIER_NODE, 8) => right - 1,
+        (PERIOD_FOR_DEADLINE, 5) => 2,
+        (LF_FIELD, 1) if right == 0 && !text.contains(&b'\n') => fields(text).count(),
+        (MAP_FOR_SURPLUS, 1) if line == 1 && right == 3 => 2,
+        (EMPTY_LINE, 1) if text.starts_with(b"\n") => 0,
+        (KEPT_FIELDS, 1) if right > 5 + MOST_NODES => 0,
+        (SHORT_COUNT, _) => right % 65_536,
+        _ => right,
+    }
 }

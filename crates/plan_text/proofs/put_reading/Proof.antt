@@ -15,7 +15,7 @@ same-length c = c .before .before .put-refused .kept .0
 returns : tie.Need-returns
 returns c =
     let p = c .before .before in
-    let k = p .before .before in
+    let k = p .before .before .before in
     let d = k .before .before in
     let r = d .before .before .before .before .args .reading in
     let e = read-refused r (refuses (r .fault) (d .before .refuses .ensures) (d .if1 .taken)) in
@@ -43,6 +43,7 @@ put-reading-spec =
     (tie.spec
     (λ c κs. tt)
     (λ c κs. tt)
+    (λ c. search needs)
     (λ c. search needs)
     (λ c. search needs)
     (λ c κs. tt)

@@ -1,11 +1,15 @@
 -- Input that is too long gives its refusal; of any other what was read is put, a set that was read passes the record check, and no line
--- above 66 is named.
+-- above 66 is named, nor a field above 16,385.
 use Prim.{tt}
 use mathlib.Core.Path.{sym, ap, _∙_}
+use native.Mathlib.Omega.{arith}
+use lib.ListN.{length}
+use borrow.Author.Tests.{ltb-false}
 use Rattle.text.specs.Put.{put-same}
+use Rattle.document.specs.Program.{mostInput}
 use Rattle.plan_text.specs.PlanOfReading.{planRead}
 use Rattle.promise.specs.TextHeld.{text-passes}
-use Rattle.text.specs.NamedLine.{read-line-le}
+use Rattle.laws.specs.{LinesRead.{read-line-le}, NamedFields.{field-le}}
 use Rattle.plan_text.specs.PlanInBuffer.{text-long, text-short}
 use Rattle.plan_text.proofs.put_text.Statement.{statement}
 use Rattle.plan_text.proofs.put_text.Tie as tie
@@ -22,9 +26,11 @@ returns c =
 
 put-reading-requires : tie.Need-put-reading-requires
 put-reading-requires c κs =
-    let r = c .before .read .ensures in
-    let input = c .before .before .before .before .before .before .args .input .now in
-    (λ g. rw r (text-passes input (rw (← r) g)), rw r (read-line-le input))
+    let r = c .before .read .ensures .0 in
+    let test = c .before .before in
+    let input = test .before .before .before .before .args .input .now in
+    let l = ltb-false mostInput (length input) (sym (test .before .is-too-long .ensures) ∙ test .if1 .left) in
+    (λ g. rw r (text-passes input (rw (← r) g)), (rw r (read-line-le input), rw r (omega (arith, field-le input, l))))
 
 same-length-2 : tie.Need-same-length-2
 same-length-2 c = c .before .before .put-reading .kept .0
@@ -34,7 +40,7 @@ returns-2 c =
     let test = c .before .before .before .before .before in
     let input = test .before .before .before .before .args .input .now in
     let l = text-short input (sym (test .before .is-too-long .ensures) ∙ test .if1 .left) in
-    let e = l ∙ ap planRead (sym (c .before .before .before .before .read .ensures)) in
+    let e = l ∙ ap planRead (sym (c .before .before .before .before .read .ensures .0)) in
     put-same _ _ _ _ _ _ (sym e) (c .before .before .put-reading .ensures)
 
 pub put-text-spec : {M : Type 1} → statement M

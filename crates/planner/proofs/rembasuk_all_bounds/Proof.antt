@@ -14,7 +14,7 @@ returns c =
     let o = t .before .before in
     let table = o .before .before .before .args .table .now in
     let w = t .table-of-reading .ensures in
-    let r = o .read .ensures in (
+    let r = o .read .ensures .0 in (
       c .table-numbers .ensures ∙ ap tableNumbers (w .0 ∙ ap (λ (x : Reading). tableAnswer x (length table)) r),
       w .1 ∙ ap (λ (x : Reading). tableAfter x table) r,
     )

@@ -11,7 +11,7 @@ unfolding boundsForC
 returns c =
     let flow = c .before .before .before .before .args .flow in
     c .bounds-numbers .ensures
-    ∙ ap boundsNumbers (c .before .bounds-of-reading .ensures ∙ ap (λ (r : Reading). boundsOfReading r flow) (c .before .before .read .ensures))
+    ∙ ap boundsNumbers (c .before .bounds-of-reading .ensures ∙ ap (λ (r : Reading). boundsOfReading r flow) (c .before .before .read .ensures .0))
 
 pub rembasuk-bounds-spec : {M : Type 1} → statement M
 rembasuk-bounds-spec =

@@ -12,7 +12,7 @@ use Rattle.planner.proofs.rembasuk_slot.Tie as tie
 slot-of-reading-requires : tie.Need-slot-of-reading-requires
 slot-of-reading-requires c κs =
     let o = c .before .before in
-    rw (o .read .ensures) (text-passes (o .before .before .before .before .args .text .now))
+    rw (o .read .ensures .0) (text-passes (o .before .before .before .before .args .text .now))
 
 returns : tie.Need-returns
 unfolding slotForC
@@ -21,7 +21,7 @@ returns c =
     let o = s .before .before .before in
     let a = o .before .before .before .before .args in
     let w = s .slot-of-reading .ensures in
-    let r = o .read .ensures in
+    let r = o .read .ensures .0 in
     let room = length (a .lines .now) in (
       c .slot-numbers .ensures ∙ ap slotNumbers (w .0 ∙ ap (λ (x : Reading). slotAnswer x (a .state .now) room) r),
       (

@@ -14,7 +14,7 @@ returns c =
     let o = t .before .before in
     let table = o .before .before .before .args .table .now in
     let w = t .superframe-of-reading .ensures in
-    let r = o .read .ensures in (
+    let r = o .read .ensures .0 in (
       c .superframe-numbers .ensures ∙ ap superframeNumbers (w .0 ∙ ap (λ (x : Reading). superframeOfReading x (length table)) r),
       w .1 ∙ ap (λ (x : Reading). superframeAfter x table) r,
     )

@@ -9,7 +9,7 @@ returns : tie.Need-returns
 unfolding sizeForC
 returns c =
     let size = c .before in
-    c .superframe-numbers .ensures ∙ ap superframeNumbers (size .size-of-reading .ensures ∙ ap sizeOfReading (size .before .read .ensures))
+    c .superframe-numbers .ensures ∙ ap superframeNumbers (size .size-of-reading .ensures ∙ ap sizeOfReading (size .before .read .ensures .0))
 
 pub rembasuk-superframe-size-spec : {M : Type 1} → statement M
 rembasuk-superframe-size-spec = tie.close (tie.spec (λ c κs. search needs) (λ c κs. search needs) (λ c κs. search needs) returns)

@@ -9,7 +9,7 @@ returns : tie.Need-returns
 unfolding verdictForC
 returns c =
     c .verdict-numbers .ensures
-    ∙ ap verdictNumbers (c .before .verdict-of-reading .ensures ∙ ap verdictOfReading (c .before .before .read .ensures))
+    ∙ ap verdictNumbers (c .before .verdict-of-reading .ensures ∙ ap verdictOfReading (c .before .before .read .ensures .0))
 
 pub rembasuk-verdict-spec : {M : Type 1} → statement M
 rembasuk-verdict-spec =

@@ -165,6 +165,7 @@ fn main() {
     std::fs::write(root.join("target/f3.set"), &inputs.f3.text).expect("F3 is written");
     let mut rows = Vec::new();
     verdicts(&mut rows, &inputs);
+    refused(&mut rows, &inputs);
     bounds(&mut rows, &inputs);
     slots(&mut rows, &inputs);
     loading(&mut rows, &inputs);
@@ -242,6 +243,24 @@ fn verdicts<'a>(rows: &mut Vec<Row<'a>>, inputs: &'a Inputs) {
             format!("verdict: {}", input.name),
             move || compare::text_verdict(black_box(text)).rounds.into(),
             move || verdict_of_text(black_box(text)).rounds.into(),
+        ));
+    }
+}
+
+/// Texts that are refused for their very last field: all of the text is read, and its last line once more.
+fn refused(rows: &mut Vec<Row>, inputs: &Inputs) {
+    let longest = &inputs.longest.text;
+    let last = longest.iter().rposition(|&byte| byte == b'\t').expect("a tab");
+    let texts = [
+        ("the longest text with `x` for its last node", [&longest[..=last], b"x\n"].concat()),
+        ("a line of 1 MB whose last field is bad", format!("set\t1\nflow{}\tx\n", "\t65535".repeat(175_000)).into_bytes()),
+    ];
+    for (name, text) in texts {
+        let again = text.clone();
+        rows.push(Row::new(
+            format!("verdict, refused: {name}"),
+            move || compare::text_verdict(black_box(&text)).fault.field as u64,
+            move || verdict_of_text(black_box(&again)).refusal.field as u64,
         ));
     }
 }

@@ -1,9 +1,9 @@
-//! Texts that the proved reader reads and the proved writer writes again where they are accepted; records that it writes, and buffers on
-//! either side of a text's length; sets of which it says how long the superframe is; and a table's lines, read and written again. What must
-//! be printed stands in tests/cases/stdout, from documents 01 and 02 and not from this program.
+//! Texts that the proved reader reads and the proved writer writes again where they are accepted, and the plan's line where they are not;
+//! records that it writes, and buffers on either side of a text's length; sets of which it says how long the superframe is; and a table's
+//! lines, read and written again. What must be printed stands in tests/cases/stdout, from documents 01 and 02 and not from this program.
 //! Usage: cases FOLDER; of its files `texts`, `sets` and `lines` each line is a label, a tab, and the text in one line.
 
-use compare::{read, Fault, Record, Written};
+use compare::{read, Fault, Lined, Record, Written};
 use second::Set;
 use std::path::Path;
 
@@ -24,37 +24,44 @@ fn meant(b: u8) -> u8 {
     }
 }
 
-fn print(label: &str, fault: Fault, length: usize) {
-    println!("{label}\t{}\t{}\t{length}", fault.refusal, fault.line);
+/// A refusal: number, line, field.
+fn told(fault: Fault) -> String {
+    format!("{}\t{}\t{}", fault.refusal, fault.line, fault.field)
 }
 
-/// The reader's number and line, and how many bytes the set is written in; 0 where it is refused, or is not this text again.
+/// The reader's number, line and field, and how many bytes the set is written in; 0 where it is refused, or is not this text again. Of a
+/// refused text also what the plan program prints, with `|` for a tab and `$` for LF.
 fn text_case(label: &str, text: &[u8]) {
     let (fault, set) = read(text);
     let mut out = vec![0; 65536];
     let n = Record::new(&set).write(&mut out).length;
-    print(label, fault, if out[..n] == *text { n } else { 0 });
+    print!("{label}\t{}\t{}", told(fault), if out[..n] == *text { n } else { 0 });
+    if fault.refusal != 0 {
+        let n = compare::plan(text, &mut out).length;
+        print!("\t{}", String::from_utf8_lossy(&out[..n]).replace('\t', "|").replace('\n', "$"));
+    }
+    println!();
 }
 
-/// Of a set's superframe number and line, hyper-period, and how many numbers; a table of one number less is refused with 10.
+/// Of a set's superframe number, line and field, hyper-period, and how many numbers; a table of one number less is refused with 10.
 fn set_case(label: &str, text: &[u8]) {
     let a = compare::text_superframe_size(text);
     let mut table = vec![0; a.numbers.saturating_sub(1)];
     let short = compare::text_superframe(text, &mut table).fault.refusal;
-    println!("{label}\t{}\t{}\t{}\t{}\t{short}", a.fault.refusal, a.fault.line, a.hyper, a.numbers);
+    println!("{label}\t{}\t{}\t{}\t{short}", told(a.fault), a.hyper, a.numbers);
 }
 
 /// Of a table's lines number and line, and how many numbers; 0 where they are refused, or are not these lines again.
 fn lines_case(label: &str, text: &[u8]) {
     let (mut table, mut out) = (vec![0; text.len()], vec![0; text.len()]);
-    let Written { fault, length } = compare::table_read(text, &mut table);
+    let Lined { refusal, line, length } = compare::table_read(text, &mut table);
     let n = compare::table_write(&table[..length], &mut out).length;
-    print(label, fault, if out[..n] == *text { length } else { 0 });
+    println!("{label}\t{refusal}\t{line}\t{}", if out[..n] == *text { length } else { 0 });
 }
 
 fn written(label: &str, set: &Set, size: usize) {
     let Written { fault, length } = Record::new(set).write(&mut vec![0; size]);
-    print(label, fault, length);
+    println!("{label}\t{}\t{length}", told(fault));
 }
 
 /// A set of one flow, whose text has 26 bytes.

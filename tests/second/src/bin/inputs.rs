@@ -36,7 +36,8 @@ fn main() {
     for faults in texts::pairs() {
         let damaged = texts::damaged(&mut rng, faults);
         let refusal = read(&damaged.text).refusal;
-        println!("pair\t{}\t{}\trefused\t{}\t{}", faults[0], faults[1], refusal.number, refusal.line);
+        let Refusal { number, line, field } = refusal;
+        println!("pair\t{}\t{}\trefused\t{number}\t{line}\t{field}", faults[0], faults[1]);
     }
 }
 

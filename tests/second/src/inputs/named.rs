@@ -1,6 +1,8 @@
 //! Sets with a name and with answers found by hand: what sets drawn from a seed seldom or never have. `text` is the set;
 //! the comments say how its answers follow from document 01, and from request 1 of document 02 for routes that return.
 
+use crate::record::Refusal;
+
 /// A set and what is said of it.
 pub struct Named {
     /// What it is there for.
@@ -189,27 +191,97 @@ fn loops_alike() -> Named {
     }
 }
 
-/// Texts that are refused: what for, the text, number and line.
-pub fn refused() -> Vec<(&'static str, String, u8, usize)> {
+/// A text with blanks for tabs and `;` for LF, as it is typed here.
+pub fn typed(text: &str) -> String {
+    text.replace(' ', "\t").replace(';', "\n")
+}
+
+/// Texts that are refused: what for, the text, and the refusal.
+pub fn refused() -> Vec<(&'static str, String, Refusal)> {
     let flow = |fields: &str| format!("set\t1\nflow\t{fields}\n");
+    let at = Refusal::in_field;
     vec![
-        ("a 65th flow", format!("set\t1\n{}", "flow\t9\t9\t0\t1\t1\t2\n".repeat(65)), 3, 66),
-        ("period 0", flow("0\t1\t0\t1\t1\t2"), 4, 2),
-        ("deadline 0", flow("9\t0\t0\t1\t1\t2"), 5, 2),
-        ("a deadline above the period", flow("9\t10\t0\t1\t1\t2"), 5, 2),
-        ("tries 0", flow("9\t9\t0\t0\t1\t2"), 6, 2),
-        ("tries 5", flow("9\t9\t0\t5\t1\t2"), 6, 2),
-        ("no node", flow("9\t9\t0\t1"), 7, 2),
-        ("one node", flow("9\t9\t0\t1\t1"), 7, 2),
-        ("18 nodes", flow(&format!("99\t99\t0\t1{}", nodes(1, 1, 18))), 7, 2),
-        ("18 nodes of two alternating ones", flow(&format!("64\t64\t0\t4{}", "\t1\t2".repeat(9))), 7, 2),
-        ("18 nodes, the last two equal", flow(&format!("99\t99\t0\t1{}\t17", nodes(1, 1, 17))), 7, 2),
-        ("two equal nodes", flow("10\t4\t0\t1\t0\t0"), 8, 2),
-        ("two equal nodes first", flow("10\t4\t0\t2\t1\t1\t2"), 8, 2),
-        ("two equal nodes last", flow("10\t4\t0\t2\t1\t2\t2"), 8, 2),
-        ("two equal nodes between", flow("10\t9\t0\t1\t1\t2\t1\t1\t2\t1"), 8, 2),
-        ("two equal nodes, and C above D", flow("10\t1\t0\t1\t1\t2\t2"), 8, 2),
-        ("C one above D to and fro", flow(&format!("64\t63\t0\t4{}\t1", "\t1\t2".repeat(8))), 9, 2),
-        ("C one above D", flow("9\t3\t0\t2\t1\t2\t3"), 9, 2),
+        ("a 65th flow", format!("set\t1\n{}", "flow\t9\t9\t0\t1\t1\t2\n".repeat(65)), at(3, 66, 1)),
+        ("period 0", flow("0\t1\t0\t1\t1\t2"), at(4, 2, 2)),
+        ("deadline 0", flow("9\t0\t0\t1\t1\t2"), at(5, 2, 3)),
+        ("a deadline above the period", flow("9\t10\t0\t1\t1\t2"), at(5, 2, 3)),
+        ("tries 0", flow("9\t9\t0\t0\t1\t2"), at(6, 2, 5)),
+        ("tries 5", flow("9\t9\t0\t5\t1\t2"), at(6, 2, 5)),
+        ("no node", flow("9\t9\t0\t1"), at(7, 2, 0)),
+        ("one node", flow("9\t9\t0\t1\t1"), at(7, 2, 0)),
+        ("18 nodes", flow(&format!("99\t99\t0\t1{}", nodes(1, 1, 18))), at(7, 2, 0)),
+        ("18 nodes of two alternating ones", flow(&format!("64\t64\t0\t4{}", "\t1\t2".repeat(9))), at(7, 2, 0)),
+        ("18 nodes, the last two equal", flow(&format!("99\t99\t0\t1{}\t17", nodes(1, 1, 17))), at(7, 2, 0)),
+        ("two equal nodes", flow("10\t4\t0\t1\t0\t0"), at(8, 2, 7)),
+        ("two equal nodes first", flow("10\t4\t0\t2\t1\t1\t2"), at(8, 2, 7)),
+        ("two equal nodes last", flow("10\t4\t0\t2\t1\t2\t2"), at(8, 2, 8)),
+        ("two equal nodes between", flow("10\t9\t0\t1\t1\t2\t1\t1\t2\t1"), at(8, 2, 9)),
+        ("two equal nodes, and C above D", flow("10\t1\t0\t1\t1\t2\t2"), at(8, 2, 8)),
+        ("C one above D to and fro", flow(&format!("64\t63\t0\t4{}\t1", "\t1\t2".repeat(8))), at(9, 2, 0)),
+        ("C one above D", flow("9\t3\t0\t2\t1\t2\t3"), at(9, 2, 0)),
     ]
+}
+
+/// First lines of request 3, each a whole text, as they are typed: number and field of the refusal. An empty field is two
+/// blanks in a row.
+const FIRST_LINES: [(&str, u8, usize); 17] = [
+    ("", 1, 0),
+    (";", 1, 1),
+    ("set", 1, 0),
+    ("set;", 1, 0),
+    ("set 3", 1, 0),
+    ("set ;", 1, 2),
+    ("set x;", 1, 2),
+    ("set 07;", 1, 2),
+    ("set 3\r;", 1, 2),
+    ("set 3 4;", 1, 3),
+    ("set 3 ;", 1, 3),
+    ("set x 4;", 1, 2),
+    ("set 0;", 2, 2),
+    ("set 0 x;", 1, 3),
+    ("Set 3;", 1, 1),
+    ("sets 3;", 1, 1),
+    ("se", 1, 1),
+];
+
+/// Second lines of request 3. The route of forty nodes is too long, which the form is before.
+const SECOND_LINES: [(&str, u8, usize); 22] = [
+    ("flow;", 1, 0),
+    ("flow", 1, 0),
+    ("flowx 1;", 1, 1),
+    (";", 1, 1),
+    ("fl", 1, 1),
+    ("flow 10 8 0;", 1, 0),
+    ("flow 10 8 0 1;", 7, 0),
+    ("flow 10 8 0 1 1 2", 1, 0),
+    ("flow 10 8 0 x 1 2", 1, 5),
+    ("flow 10 8 0 1 1  2;", 1, 7),
+    ("flow 10 8 0 1 1 2 ;", 1, 8),
+    ("flow 10 8 0 1 1 2 65536;", 1, 8),
+    ("flow 0 8 0 1 1 2 x;", 1, 8),
+    ("flow 0 8 0 1 1 2;", 4, 2),
+    ("flow 10 0 0 1 1 2;", 5, 3),
+    ("flow 10 11 0 1 1 2;", 5, 3),
+    ("flow 10 8 0 5 1 2;", 6, 5),
+    ("flow 10 8 0 1 1 1;", 8, 7),
+    ("flow 10 8 0 1 1 2 2 2;", 8, 8),
+    ("flow 10 8 0 1 1 2 1 1;", 8, 9),
+    ("flow 10 8 0 1 1 2 3 4 5 6 7 8 9 1 2 3 4 5 6 7 8 9 1 2 3 4 5 6 7 8 9 1 2 3 4 5 6 7 8 9 1 2 3 4 x;", 1, 46),
+    ("flow 10 8 0 1 1 2 3 4 5 6 7 8 9 1 2 3 4 5 6 7 8 9 1 2 3 4 5 6 7 8 9 1 2 3 4 5 6 7 8 9 1 2 3 4;", 7, 0),
+];
+
+/// Lines of request 3 behind 64 flows.
+const LAST_LINES: [(&str, u8, usize); 3] =
+    [("flow 9 9 0 1 1 2;", 3, 1), ("flow 0 8 0 1 1 2;", 3, 1), ("flow 0 8 0 1 1 x;", 1, 7)];
+
+/// The texts of request 3, and what the reader answers.
+pub fn fields() -> Vec<(String, Refusal)> {
+    let crowd = format!("set 3;{}", "flow 9 9 0 1 1 2;".repeat(64));
+    let behind = |before: &str, line: usize, (text, number, field): (&str, u8, usize)| {
+        (typed(&format!("{before}{text}")), Refusal::in_field(number, line, field))
+    };
+    let first = FIRST_LINES.map(|row| behind("", 1, row));
+    let second = SECOND_LINES.map(|row| behind("set 3;", 2, row));
+    let last = LAST_LINES.map(|row| behind(&crowd, 66, row));
+    first.into_iter().chain(second).chain(last).collect()
 }

@@ -1,10 +1,11 @@
-//! Texts: good ones, ones with chosen faults in one line, and ones with stray bytes.
+//! Texts: good ones, ones with chosen faults in one line, ones with stray bytes, and ones with a very long line.
 
 use super::{sets, Rng};
 use crate::record::{Flow, Refusal, Set, MOST_FLOWS, MOST_NODES};
 use crate::write::text_of;
 
-/// A text with faults put into one line, and the refusal they ask for: the lowest of them at that line.
+/// A text with faults put into one line, and the refusal they ask for: the lowest of them at that line, with the field that
+/// it was put into.
 #[derive(Clone, Debug)]
 pub struct Damaged {
     /// The text.
@@ -43,7 +44,7 @@ pub fn damaged(rng: &mut Rng, faults: [u8; 2]) -> Damaged {
     };
     let lines = lines_of(&set);
     let mut text = lines[..before].concat();
-    let line = if first { first_line(rng, faults) } else { flow_line(rng, faults) };
+    let (line, field) = if first { first_line(rng, faults) } else { flow_line(rng, faults) };
     let ended = line.last() == Some(&b'\n');
     text.extend_from_slice(&line);
     if ended && rng.once_in(2) {
@@ -51,7 +52,34 @@ pub fn damaged(rng: &mut Rng, faults: [u8; 2]) -> Damaged {
         let later: [&[u8]; 6] = [b"", b"\n", b"set\t0\n", b"flow\t0", b"x", b"flow\t9\t9\t0\t1\t5\t5\n"];
         text.extend_from_slice(rng.pick(&later));
     }
-    Damaged { text, refusal: Refusal::at(faults[0].min(faults[1]), before + 1) }
+    Damaged { text, refusal: Refusal::in_field(faults[0].min(faults[1]), before + 1, field) }
+}
+
+/// How many fields a long line has: as many as the programs read at once, and more than 16 bits count.
+pub const LONG: [usize; 2] = [8_000, 100_000];
+
+/// A text whose second line has so many fields and is ended by this, with a bad one at this place; with none where it is 0,
+/// and then the route is too long, or only the LF is missing.
+fn long_line(count: usize, bad: usize, end: &str) -> Damaged {
+    let mut fields = vec!["1"; count];
+    fields[0] = "flow";
+    if bad > 0 {
+        fields[bad - 1] = "x";
+    }
+    let number = if bad > 0 || end.is_empty() { 1 } else { 7 };
+    let text = format!("set\t1\n{}{end}", fields.join("\t")).into_bytes();
+    Damaged { text, refusal: Refusal::in_field(number, 2, bad) }
+}
+
+/// Long lines with the bad field first, last, on either side of what 8 and 16 bits count, and nowhere; each with LF and
+/// without.
+pub fn long_lines() -> Vec<Damaged> {
+    let places = [0, 1, 2, 5, 6, 22, 23, 255, 256, 7_999, 8_000, 65_535, 65_536, 65_537, 70_000, 99_999, 100_000];
+    let wide = |count: usize| {
+        let places = places.into_iter().filter(move |&bad| bad <= count);
+        places.flat_map(move |bad| ["\n", ""].map(|end| long_line(count, bad, end)))
+    };
+    LONG.into_iter().flat_map(wide).collect()
 }
 
 /// A set of 64 flows, short ones, so that a 65th line can follow.
@@ -74,39 +102,43 @@ fn lines_of(set: &Set) -> Vec<Vec<u8>> {
     text_of(set).split_inclusive(|&byte| byte == b'\n').map(<[u8]>::to_vec).collect()
 }
 
-/// A first line with fault 1, 2 or both.
-fn first_line(rng: &mut Rng, faults: [u8; 2]) -> Vec<u8> {
+/// A first line with fault 1, 2 or both, and the field of the lower one.
+fn first_line(rng: &mut Rng, faults: [u8; 2]) -> (Vec<u8>, usize) {
     let map = if faults[1] == 2 { 0 } else { rng.within(1, 65_535) };
     let line = format!("set\t{map}\n").into_bytes();
+    let short = [("", 0), ("\n", 1), ("set", 0), ("set\n", 0), ("set\t", 2), ("set\t\n", 2)];
     match (faults[0], rng.below(4)) {
-        (1, 0) => [&line[..line.len() - 1], rng.pick(&[&b"\t1\n"[..], b"\t0\n", b"\t\n"])].concat(),
-        (1, 1) if faults[1] == 1 => rng.pick(&[&b""[..], b"\n", b"set", b"set\n", b"set\t", b"set\t\n"]).to_vec(),
+        (1, 0) => ([&line[..line.len() - 1], rng.pick(&[&b"\t1\n"[..], b"\t0\n", b"\t\n"])].concat(), 3),
+        (1, 1) if faults[1] == 1 => {
+            let (line, field) = rng.pick(&short);
+            (line.into(), field)
+        }
         (1, _) => misform(rng, line, faults == [1, 1]),
-        _ => line,
+        _ => (line, 2),
     }
 }
 
-/// A flow's line with these faults and none lower than the lowest of them.
-fn flow_line(rng: &mut Rng, faults: [u8; 2]) -> Vec<u8> {
-    let has = |fault| faults.contains(&fault);
-    let (flow, route) = draft(rng, faults);
+/// A flow's line with these faults and none lower than the lowest of them, and that one's field.
+fn flow_line(rng: &mut Rng, faults: [u8; 2]) -> (Vec<u8>, usize) {
+    let (flow, route, later) = draft(rng, faults);
     let mut line = b"flow".to_vec();
     let head = [flow.period, flow.deadline, flow.start, flow.tries];
     for number in head.iter().chain(&route) {
         line.extend_from_slice(format!("\t{number}").as_bytes());
     }
     line.push(b'\n');
-    if !has(1) {
-        return line;
+    if faults[0] != 1 {
+        // of 3 to 9: the word, T, D, κ, none, the later node of the equal pair, none
+        return (line, [1, 2, 3, 5, 0, 6 + later, 0][usize::from(faults[0] - 3)]);
     }
     if faults == [1, 1] && rng.once_in(4) {
-        return shorten(rng, &line);
+        return (shorten(rng, &line), 0);
     }
     misform(rng, line, faults == [1, 1])
 }
 
-/// Tries and route of a line with these faults of 6 to 8.
-fn way(rng: &mut Rng, faults: [u8; 2]) -> (usize, Vec<u16>) {
+/// Tries and route of a line with these faults of 6 to 8, and the place of the equal pair's later node, 0 without one.
+fn way(rng: &mut Rng, faults: [u8; 2]) -> (usize, Vec<u16>, usize) {
     let has = |fault| faults.contains(&fault);
     let tries = match rng.below(3) {
         _ if !has(6) => rng.within(1, 4),
@@ -128,19 +160,21 @@ fn way(rng: &mut Rng, faults: [u8; 2]) -> (usize, Vec<u16>) {
             route[i] = route[i - 2];
         }
     }
-    if has(8) {
-        // the equal pair comes first, last, or anywhere
-        let later = [1, nodes - 1, rng.within(1, nodes - 1)][rng.below(3)];
-        route[later] = route[later - 1];
+    if !has(8) {
+        return (tries, route, 0);
     }
-    (tries, route)
+    // the equal pair comes first, last, or anywhere; a node that returns may make a second one behind it
+    let later = [1, nodes - 1, rng.within(1, nodes - 1)][rng.below(3)];
+    route[later] = route[later - 1];
+    (tries, route, later)
 }
 
-/// The numbers of a line with these faults of 4 to 9. Each is put in so that it undoes none before: tries and route,
-/// then the deadline below C, then the deadline above the period or 0, then the period 0.
-fn draft(rng: &mut Rng, faults: [u8; 2]) -> (Flow, Vec<u16>) {
+/// The numbers of a line with these faults of 4 to 9, and the place of the equal pair's later node. Each is put in so that it
+/// undoes none before: tries and route, then the deadline below C, then the deadline above the period or 0, then the
+/// period 0.
+fn draft(rng: &mut Rng, faults: [u8; 2]) -> (Flow, Vec<u16>, usize) {
     let has = |fault| faults.contains(&fault);
-    let (tries, route) = way(rng, faults);
+    let (tries, route, later) = way(rng, faults);
     let c = route.len().saturating_sub(1) * tries;
     let period = rng.within(c.clamp(2, 60_000), 65_534);
     let deadline = if has(9) { rng.within(1, period.min(c - 1)) } else { rng.within(c.clamp(1, period), period) };
@@ -160,25 +194,43 @@ fn draft(rng: &mut Rng, faults: [u8; 2]) -> (Flow, Vec<u16>) {
     if has(4) {
         flow.period = 0;
     }
-    (flow, route)
+    (flow, route, later)
 }
 
-/// Damages a line's form: a wrong word, a bad number, stray bytes, or no LF. All its numbers stay, for a second fault
-/// to be there still, unless this is to be the only one.
-fn misform(rng: &mut Rng, line: Vec<u8>, only: bool) -> Vec<u8> {
+/// Damages a line's form: a wrong word, a bad number, stray bytes, or no LF; and the first field that breaks it. All its
+/// numbers stay, for a second fault to be there still, unless this is to be the only one.
+fn misform(rng: &mut Rng, line: Vec<u8>, only: bool) -> (Vec<u8>, usize) {
     let body = &line[..line.len() - 1];
     let rest = &body[body.iter().position(|&byte| byte == b'\t').unwrap_or(0)..];
-    let last = body.len() - body.iter().rev().position(|&byte| byte == b'\t').unwrap_or(0);
+    let fields = body.split(|&byte| byte == b'\t').count();
     match rng.below(7) {
-        0 if rng.once_in(3) => [if line[0] == b's' { "flow" } else { "set" }.as_bytes(), rest, b"\n"].concat(),
-        0 => [rng.pick(&WORDS).as_bytes(), rest, b"\n"].concat(),
-        1 if only => [&body[..last], rng.pick(&BAD_NUMBERS).as_bytes(), b"\n"].concat(),
-        1 | 2 => [body, b"\t", rng.pick(&BAD_NUMBERS).as_bytes(), b"\n"].concat(),
-        3 => [body, rng.pick(&["\r", "\t", " ", "\t\t1", ",1", "\0"]).as_bytes(), b"\n"].concat(),
-        4 => [rng.pick(&["\t", " ", "\n", "\u{feff}"]).as_bytes(), body, b"\n"].concat(),
-        5 => [b"\n", &line[..]].concat(),
-        _ => body.to_vec(),
+        0 if rng.once_in(3) => ([if line[0] == b's' { "flow" } else { "set" }.as_bytes(), rest, b"\n"].concat(), 1),
+        0 => ([rng.pick(&WORDS).as_bytes(), rest, b"\n"].concat(), 1),
+        1 if only => spoil(rng, body),
+        1 | 2 => {
+            let end = rng.pick(&["\n", "\n", "\t7\n", "\tx\n", ""]);
+            ([body, b"\t", rng.pick(&BAD_NUMBERS).as_bytes(), end.as_bytes()].concat(), fields + 1)
+        }
+        3 => {
+            let (end, more) = rng.pick(&[("\r", 0), ("\t", 1), (" ", 0), ("\t\t1", 1), (",1", 0), ("\0", 0)]);
+            ([body, end.as_bytes(), b"\n"].concat(), fields + more)
+        }
+        4 => ([rng.pick(&["\t", " ", "\n", "\u{feff}"]).as_bytes(), body, b"\n"].concat(), 1),
+        5 => ([b"\n", &line[..]].concat(), 1),
+        _ => (body.to_vec(), 0),
     }
+}
+
+/// Bad numbers in some fields of a line, mostly with LF behind; and the first of them.
+fn spoil(rng: &mut Rng, body: &[u8]) -> (Vec<u8>, usize) {
+    let mut fields: Vec<&[u8]> = body.split(|&byte| byte == b'\t').collect();
+    let first = rng.within(1, fields.len() - 1);
+    for (place, field) in fields.iter_mut().enumerate().skip(first) {
+        if place == first || rng.once_in(3) {
+            *field = rng.pick(&BAD_NUMBERS).as_bytes();
+        }
+    }
+    ([&fields.join(&b'\t')[..], rng.pick(&[&b"\n"[..], b"\n", b""])].concat(), first + 1)
 }
 
 /// Words that no line has.

@@ -4,16 +4,19 @@
 use crate::definition::{self, Equation};
 use second::check::check_with;
 use second::delay::{Delays, PlannerWith};
-use second::inputs::{named, records, sets, Rng};
+use second::inputs::{named, records, sets, texts, Rng};
 use second::machine::MachineWith;
 use second::plan::print;
+use second::read::read_with;
 use second::slip;
 use second::superframe::{hyper_with, sends_by_table, table_of};
-use second::{read, Flow, Refusal, Set, Slot, State, Transmission};
+use second::{read, Flow, Read, Refusal, Set, Slot, State, Transmission};
 
-/// The rules to try: those of a record, a planner's, a machine's and a superframe's, any of them with a slip in it.
+/// The rules to try: a reader's, those of a record, a planner's, a machine's and a superframe's, any of them with a slip in
+/// it.
 #[derive(Clone, Copy)]
 pub struct Rules {
+    pub read: fn(&[u8]) -> Read,
     pub check: fn(&Set) -> Refusal,
     pub delays: fn(&Set) -> Delays,
     pub machine: fn(&Set) -> Box<dyn Steps>,
@@ -43,6 +46,7 @@ impl<const SLIP: u8> Steps for MachineWith<SLIP> {
 
 /// The documents' rules.
 pub const RIGHT: Rules = Rules {
+    read: read_with::<{ slip::NONE }>,
     check: check_with::<{ slip::NONE }>,
     delays: delays::<{ slip::NONE }>,
     machine: machine::<{ slip::NONE }>,
@@ -50,6 +54,11 @@ pub const RIGHT: Rules = Rules {
     table: table_of::<{ slip::NONE }>,
     by_table: sends_by_table::<{ slip::NONE }>,
 };
+
+/// A slip in the reader.
+pub fn reader_slip<const SLIP: u8>() -> Rules {
+    Rules { read: read_with::<SLIP>, ..RIGHT }
+}
 
 /// A slip in the rules of a record.
 pub fn record_slip<const SLIP: u8>() -> Rules {
@@ -242,6 +251,47 @@ pub fn refusals(rules: Rules, seed: u64, draws: usize) -> Found {
         claim(found == Refusal::at(number, line), || {
             format!("{found:?}, not {number} at {line}, of {:?}", set.used())
         })?;
+    }
+    Ok(())
+}
+
+/// A text is refused just so, and then the set is blank.
+fn hold_refused(rules: Rules, text: &[u8], wanted: Refusal) -> Found {
+    let read = (rules.read)(text);
+    let start = || String::from_utf8_lossy(&text[..text.len().min(9_000)]);
+    claim(read.refusal == wanted, || format!("{:?}, not {wanted:?}, of {:?}", read.refusal, start()))?;
+    claim(!wanted.refuses() || read.set == Set::BLANK, || format!("no blank set of {:?}", start()))
+}
+
+/// The texts of request 3 and those that are refused for one thing: number, line and field as they say.
+pub fn named_texts(rules: Rules) -> Found {
+    named::fields().iter().try_for_each(|(text, refusal)| hold_refused(rules, text.as_bytes(), *refusal))?;
+    named::refused().iter().try_for_each(|(_, text, refusal)| hold_refused(rules, text.as_bytes(), *refusal))
+}
+
+/// Texts with a very long line.
+pub fn long_lines(rules: Rules) -> Found {
+    texts::long_lines().iter().try_for_each(|long| hold_refused(rules, &long.text, long.refusal))
+}
+
+/// Texts with every pair of faults in a line, so many of each: the lower one decides, and its field.
+pub fn damaged_texts(rules: Rules, seed: u64, draws: usize) -> Found {
+    let mut rng = Rng::new(seed);
+    for faults in texts::pairs() {
+        for _ in 0..draws {
+            let damaged = texts::damaged(&mut rng, faults);
+            hold_refused(rules, &damaged.text, damaged.refusal)?;
+        }
+    }
+    Ok(())
+}
+
+/// Texts of every kind against the definition.
+pub fn texts(rules: Rules, seed: u64, draws: usize) -> Found {
+    let mut rng = Rng::new(seed);
+    for _ in 0..draws {
+        let text = texts::any(&mut rng);
+        hold_refused(rules, &text, definition::refusal_of_text(&text))?;
     }
     Ok(())
 }

@@ -1,8 +1,8 @@
-//! Document 01, rule 8 and S as request 1 of document 02 has them, and request 2, in the slowest and most literal words:
-//! signed numbers, nested loops, all lists tried. For tiny sets, single slots and short tables only; it shares nothing with
-//! the library but the records.
+//! Document 01, rule 8 and S as request 1 of document 02 has them, and requests 2 and 3, in the slowest and most literal
+//! words: signed numbers, nested loops, all lists tried. For tiny sets, single slots and short tables only; it shares
+//! nothing with the library but the records.
 
-use second::{Delivered, Flow, Set, Slot, State, Transmission};
+use second::{Delivered, Flow, Refusal, Set, Slot, State, Transmission};
 
 pub fn c(flow: &Flow) -> i64 {
     (i64::from(flow.nodes) - 1) * i64::from(flow.tries)
@@ -39,6 +39,62 @@ pub fn refusal(set: &Set) -> (u8, usize) {
         (3, 66)
     } else {
         (0, 0)
+    }
+}
+
+/// The refusal of a text, number, line and field: each line with its LF, and split at its tabs whatever stands in it.
+pub fn refusal_of_text(text: &[u8]) -> Refusal {
+    if text.is_empty() {
+        return Refusal::in_field(1, 1, 0);
+    }
+    for (before, line) in text.split_inclusive(|&byte| byte == b'\n').enumerate() {
+        let (number, field) = fault_of_line(before, line);
+        if number != 0 {
+            return Refusal::in_field(number, before + 1, field);
+        }
+    }
+    Refusal::NONE
+}
+
+/// The lowest fault of a line, behind so many others, and its field; 0 where it has none.
+fn fault_of_line(before: usize, line: &[u8]) -> (u8, usize) {
+    let fields: Vec<&[u8]> = line.strip_suffix(b"\n").unwrap_or(line).split(|&byte| byte == b'\t').collect();
+    let numbers: Vec<Option<i64>> =
+        fields.iter().map(|field| std::str::from_utf8(field).ok().and_then(number)).collect();
+    for place in 0..fields.len() {
+        let bad = match (before, place) {
+            (0, 0) => fields[place] != b"set",
+            (_, 0) => fields[place] != b"flow",
+            (0, 2..) => true,
+            _ => numbers[place].is_none(),
+        };
+        if bad {
+            return (1, place + 1);
+        }
+    }
+    let few = if before == 0 { 2 } else { 5 };
+    if line.last() != Some(&b'\n') || fields.len() < few {
+        return (1, 0);
+    }
+    let numbers: Vec<i64> = numbers.into_iter().skip(1).flatten().collect();
+    match before {
+        0 if numbers[0] == 0 => (2, 2),
+        0 => (0, 0),
+        65.. => (3, 1),
+        _ => fault_of_numbers(&numbers),
+    }
+}
+
+/// The lowest of 4 to 9 that a flow's numbers have, and its field; for 8 that of the first node that equals the one before.
+fn fault_of_numbers(numbers: &[i64]) -> (u8, usize) {
+    let found = faults(numbers[0], numbers[1], numbers[3], &numbers[4..]);
+    match found.iter().min() {
+        None => (0, 0),
+        Some(4) => (4, 2),
+        Some(5) => (5, 3),
+        Some(6) => (6, 5),
+        Some(8) => (8, 2 + (5..numbers.len()).find(|&i| numbers[i] == numbers[i - 1]).unwrap()),
+        Some(&other) => (other, 0),
     }
 }
 

@@ -47,14 +47,14 @@ fn room_is_asked_for_this_slots_lines_only() {
 fn refusals_come_in_the_order_of_the_document() {
     let text = P1_TEXT.as_bytes();
     let mut state = vec![255; 67];
-    assert_eq!(step_of_text(b"set\t0\n", &mut state, &mut []).refusal, Refusal::at(2, 1));
+    assert_eq!(step_of_text(b"set\t0\n", &mut state, &mut []).refusal, Refusal::in_field(2, 1, 2));
     assert_eq!(step_of_text(text, &mut state, &mut []).refusal, Refusal::at(12, 0));
     let mut state = bytes_of_state(&State { slot: 4_000_000_000, ..State::FRESH });
     assert_eq!(step_of_text(text, &mut state, &mut []).refusal, Refusal::at(11, 0));
     state[4] = 3;
     assert_eq!(step_of_text(text, &mut state, &mut []).refusal, Refusal::at(12, 0));
     assert_eq!(step_of_text(text, &mut [0; 68], &mut []).refusal, Refusal::at(10, 0));
-    assert_eq!(bound_of_text(b"flow", 99).refusal, Refusal::at(1, 1));
+    assert_eq!(bound_of_text(b"flow", 99).refusal, Refusal::in_field(1, 1, 1));
     assert_eq!(bound_of_text(text, 2), Bound { refusal: Refusal::at(13, 0), ..Bound::default() });
 }
 

@@ -129,6 +129,28 @@ fn equal_neighbours_come_first_in_the_middle_and_last_in_every_pair() {
     }
 }
 
+/// A 1 is put into no field, the word, the map or a number, a number too many and one behind the longest good line; and it
+/// wins over every other fault of its line, whose field is often another.
+#[test]
+fn bad_fields_come_in_every_place_of_a_line() {
+    let mut rng = Rng::new(88);
+    for faults in texts::pairs().into_iter().filter(|faults| faults[0] == 1) {
+        let mut seen = [0; 4];
+        for _ in 0..400 {
+            let Refusal { number, field, .. } = texts::damaged(&mut rng, faults).refusal;
+            assert_eq!(number, 1);
+            seen[field.min(3)] += 1;
+        }
+        assert!(seen[0] > 20 && seen[1] > 50 && seen[3] > 50, "{faults:?}: {seen:?}");
+    }
+    let mut places = [0; 24];
+    for _ in 0..2_000 {
+        places[texts::damaged(&mut rng, [1, 7]).refusal.field.min(23)] += 1;
+        places[texts::damaged(&mut rng, [1, 1]).refusal.field.min(23)] += 1;
+    }
+    assert!(places.iter().all(|&times| times > 5), "{places:?}");
+}
+
 #[test]
 fn half_of_the_sets_have_a_returning_node() {
     let mut rng = Rng::new(97);

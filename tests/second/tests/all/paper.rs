@@ -1,7 +1,9 @@
-//! P1 to P11 and the plan of document 01, byte for byte, P11 as request 1 of document 02 has it; and request 1's loops.
+//! P1 to P11 and the plan of document 01, byte for byte, P11 as request 1 of document 02 has it; request 1's loops; and the
+//! `refused` line of request 3.
 
 use crate::checks::{self, set_of, L1_TEXT, L2_TEXT, P11_TEXT, P1_PLAN, P1_TEXT, P8_TEXT, PAPER, RIGHT};
-use second::{bound, plan, read, step, verdict, Refusal, Set, State};
+use second::inputs::named;
+use second::{bound, plan, read, step, superframe_text, verdict, Refusal, Set, State};
 
 fn plan_of(text: &str) -> String {
     String::from_utf8(plan(text.as_bytes())).unwrap()
@@ -94,10 +96,18 @@ fn the_plans_of_p11_and_the_loops_are_byte_for_byte() {
 
 #[test]
 fn p9_and_p10_are_refused() {
-    for (text, number, line) in [("set\t1\nflow\t10\t3\t0\t2\t1\t2\t3\n", 9, 2), ("set\t0\n", 2, 1)] {
+    for (text, number, line, field) in [("set\t1\nflow\t10\t3\t0\t2\t1\t2\t3\n", 9, 2, 0), ("set\t0\n", 2, 1, 2)] {
         let read = read(text.as_bytes());
-        assert_eq!((read.refusal, read.set), (Refusal::at(number, line), Set::BLANK));
-        assert_eq!(plan_of(text), format!("refused\t{number}\t{line}\n"));
+        assert_eq!((read.refusal, read.set), (Refusal::in_field(number, line, field), Set::BLANK));
+        assert_eq!(plan_of(text), format!("refused\t{number}\t{line}\t{field}\n"));
+    }
+}
+
+#[test]
+fn both_programs_print_the_field() {
+    for (text, Refusal { number, line, field }) in named::fields() {
+        let wanted = format!("refused\t{number}\t{line}\t{field}\n");
+        assert_eq!((plan_of(&text), superframe_text(text.as_bytes())), (wanted.clone(), wanted.into_bytes()));
     }
 }
 
@@ -109,8 +119,8 @@ fn no_flows_are_admitted_in_one_round() {
 #[test]
 fn input_above_16384_bytes_is_refused_unread() {
     let mut text = P1_TEXT.to_string() + &"x".repeat(16_384 - P1_TEXT.len());
-    assert_eq!(plan_of(&text), "refused\t1\t4\n");
+    assert_eq!(plan_of(&text), "refused\t1\t4\t1\n");
     text.push('x');
-    assert_eq!(plan_of(&text), "refused\t10\t0\n");
-    assert_eq!(plan_of(""), "refused\t1\t1\n");
+    assert_eq!(plan_of(&text), "refused\t10\t0\t0\n");
+    assert_eq!(plan_of(""), "refused\t1\t1\t0\n");
 }

@@ -24,14 +24,14 @@ fn nodes(count: usize) -> String {
 fn flows_64_and_65() {
     assert_eq!(refusal(&flows(64)), Refusal::NONE);
     assert_eq!(set_of(&flows(64)).count, 64);
-    assert_eq!(refusal(&flows(65)), Refusal::at(3, 66));
-    assert_eq!(refusal(&flows(66)), Refusal::at(3, 66));
+    assert_eq!(refusal(&flows(65)), Refusal::in_field(3, 66, 1));
+    assert_eq!(refusal(&flows(66)), Refusal::in_field(3, 66, 1));
 }
 
 #[test]
 fn deadline_equal_to_the_period_and_one_above() {
     assert_eq!(refusal("set\t1\nflow\t10\t10\t0\t1\t1\t2\n"), Refusal::NONE);
-    assert_eq!(refusal("set\t1\nflow\t10\t11\t0\t1\t1\t2\n"), Refusal::at(5, 2));
+    assert_eq!(refusal("set\t1\nflow\t10\t11\t0\t1\t1\t2\n"), Refusal::in_field(5, 2, 3));
 }
 
 #[test]
@@ -59,8 +59,8 @@ fn nodes_16_to_18_of_two_alternating_ones() {
 
 #[test]
 fn a_leading_zero() {
-    assert_eq!(refusal("set\t07\n"), Refusal::at(1, 1));
-    assert_eq!(refusal("set\t7\nflow\t10\t10\t07\t1\t1\t2\n"), Refusal::at(1, 2));
+    assert_eq!(refusal("set\t07\n"), Refusal::in_field(1, 1, 2));
+    assert_eq!(refusal("set\t7\nflow\t10\t10\t07\t1\t1\t2\n"), Refusal::in_field(1, 2, 4));
     assert_eq!(refusal("set\t7\nflow\t10\t10\t0\t1\t1\t0\n"), Refusal::NONE);
 }
 

@@ -1,6 +1,7 @@
 //! The tests of the tests: each wrong rule is put in, and the very checks that the right rules pass must fail.
 
-use crate::checks::{self, machine_slip, planner_slip, record_slip, set_of, superframe_slip, Rules, L2_TEXT, RIGHT};
+use crate::checks::{self, machine_slip, planner_slip, reader_slip, record_slip, set_of, superframe_slip, Rules};
+use crate::checks::{L2_TEXT, RIGHT};
 use crate::loading;
 use second::slip;
 
@@ -46,12 +47,55 @@ fn caught_loading(rules: Rules) -> CaughtLoading {
     }
 }
 
+/// Which checks of request 3 catch a slip: its texts, those with a long line, those with faults put in, and any by the
+/// definition.
+fn caught_fields(rules: Rules) -> [bool; 4] {
+    let drawn = (checks::damaged_texts(rules, 30, 50), checks::texts(rules, 31, 3_000));
+    [checks::named_texts(rules), checks::long_lines(rules), drawn.0, drawn.1].map(|found| found.is_err())
+}
+
 #[test]
 fn the_right_rules_pass_every_check() {
     let none = caught(RIGHT);
     assert!(!(none.paper || none.refusals || none.greatest || none.bounds || none.slots || none.demand3));
     let none = caught_loading(RIGHT);
     assert!(!(none.paper || none.hypers || none.tables || none.repeats));
+    assert_eq!(caught_fields(RIGHT), [false; 4]);
+}
+
+#[test]
+fn naming_the_earlier_of_two_equal_nodes_is_caught() {
+    assert_eq!(caught_fields(reader_slip::<{ slip::EARLIER_NODE }>()), [true, false, true, true]);
+}
+
+#[test]
+fn naming_the_period_for_the_deadline_is_caught() {
+    assert_eq!(caught_fields(reader_slip::<{ slip::PERIOD_FOR_DEADLINE }>()), [true, false, true, true]);
+}
+
+#[test]
+fn naming_a_field_for_a_missing_lf_is_caught() {
+    assert_eq!(caught_fields(reader_slip::<{ slip::LF_FIELD }>()), [true; 4]);
+}
+
+#[test]
+fn naming_the_map_for_a_number_too_many_is_caught() {
+    assert_eq!(caught_fields(reader_slip::<{ slip::MAP_FOR_SURPLUS }>()), [true, false, true, true]);
+}
+
+#[test]
+fn naming_no_field_of_an_empty_line_is_caught() {
+    assert_eq!(caught_fields(reader_slip::<{ slip::EMPTY_LINE }>()), [true, false, true, true]);
+}
+
+#[test]
+fn ending_the_search_with_the_fields_of_the_longest_good_line_is_caught() {
+    assert_eq!(caught_fields(reader_slip::<{ slip::KEPT_FIELDS }>()), [true; 4]);
+}
+
+#[test]
+fn counting_fields_in_16_bits_is_caught() {
+    assert_eq!(caught_fields(reader_slip::<{ slip::SHORT_COUNT }>()), [false, true, false, false]);
 }
 
 #[test]

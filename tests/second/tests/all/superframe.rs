@@ -2,6 +2,7 @@
 
 use crate::checks::{set_of, P1_TEXT, PAPER, RIGHT};
 use crate::loading::{self, F2_TEXT, LOADED, P1_LINES, P1_ROWS};
+use second::inputs::named::typed;
 use second::inputs::{records, superframes, texts, Rng};
 use second::superframe::{superframe_of_text, superframe_size_of_text};
 use second::table::lines_of;
@@ -11,11 +12,6 @@ use second::{channel, check, read, superframe, superframe_size, superframe_text,
 /// A refusal without a line.
 fn refused(number: u8) -> Superframe {
     Superframe { refusal: Refusal::at(number, 0), ..Superframe::default() }
-}
-
-/// A set with blanks for tabs and `;` for LF.
-fn typed(text: &str) -> String {
-    text.replace(' ', "\t").replace(';', "\n")
 }
 
 /// What is answered of a text, with no table and with one that is long enough for it.
@@ -221,12 +217,15 @@ fn channels_follow_the_true_slot_and_no_sum_overflows() {
 fn the_program_prints_the_tables_lines() {
     let printed = |text: &str| String::from_utf8(superframe_text(text.as_bytes())).unwrap();
     assert_eq!((printed(P1_TEXT), printed(F2_TEXT)), (P1_LINES.into(), P1_LINES.into()));
-    assert_eq!((printed("set\t1\n"), printed("set\t0\n")), ("".into(), "refused\t2\t1\n".into()));
-    assert_eq!((printed(""), printed(PAPER[2].text)), ("refused\t1\t1\n".into(), "refused\t14\t0\n".into()));
-    assert_eq!(printed(&typed("set 3;flow 10 8 0 1 1 2 3;flow 20 20 1 1 4 2 5;")), "refused\t15\t0\n");
-    assert_eq!(printed(&typed("set 3;flow 32769 9 0 1 1 2;flow 2 2 0 1 8 9;")), "refused\t16\t0\n");
+    assert_eq!((printed("set\t1\n"), printed("set\t0\n")), ("".into(), "refused\t2\t1\t2\n".into()));
+    assert_eq!((printed(""), printed(PAPER[2].text)), ("refused\t1\t1\t0\n".into(), "refused\t14\t0\t0\n".into()));
+    assert_eq!(printed(&typed("set 3;flow 10 8 0 1 1 2 3;flow 20 20 1 1 4 2 5;")), "refused\t15\t0\t0\n");
+    assert_eq!(printed(&typed("set 3;flow 32769 9 0 1 1 2;flow 2 2 0 1 8 9;")), "refused\t16\t0\t0\n");
     let long = |bytes: usize| "set\t0\n".to_string() + &"x".repeat(bytes - 6);
-    assert_eq!((printed(&long(16_384)), printed(&long(16_385))), ("refused\t2\t1\n".into(), "refused\t10\t0\n".into()));
+    assert_eq!(
+        (printed(&long(16_384)), printed(&long(16_385))),
+        ("refused\t2\t1\t2\n".into(), "refused\t10\t0\t0\n".into())
+    );
     let mut rng = Rng::new(106);
     for _ in 0..1_000 {
         let set = superframes::any(&mut rng);
@@ -234,7 +233,7 @@ fn the_program_prints_the_tables_lines() {
         let answer = superframe(&set, &mut table);
         let wanted = match answer.refusal.number {
             0 => lines_of(&table),
-            number => format!("refused\t{number}\t{}\n", answer.refusal.line).into_bytes(),
+            number => format!("refused\t{number}\t{}\t0\n", answer.refusal.line).into_bytes(),
         };
         assert_eq!(superframe_text(&text_of(&set)), wanted);
     }

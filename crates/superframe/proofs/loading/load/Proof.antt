@@ -15,14 +15,14 @@ returns-2 c =
     let read = d .before .before in
     let r = read .read in
     rw (c .refused2 .ensures)
-    (loads-refused _ (le-ltb _ _ (read .before .if1 .left)) (r .result) (r .ensures) (refuses (r .result .fault) (d .refuses .ensures) (c .before .if2 .taken)))
+    (loads-refused _ (le-ltb _ _ (read .before .if1 .left)) (r .result) (r .ensures .0) (refuses (r .result .fault) (d .refuses .ensures) (c .before .if2 .taken)))
 
 returns-3 : tie.Need-returns-3
 returns-3 c =
     let d = c .before .before .before in
     let read = d .before .before .before in
     let r = read .read in
-    loads-sized _ (le-ltb _ _ (read .before .if1 .left)) (r .result) (r .ensures) (accepts (r .result .fault) (d .before .refuses .ensures) (d .if2 .left)) _
+    loads-sized _ (le-ltb _ _ (read .before .if1 .left)) (r .result) (r .ensures .0) (accepts (r .result .fault) (d .before .refuses .ensures) (d .if2 .left)) _
     (c .before .superframe-size .ensures)
 
 pub load-spec : {M : Type 1} → statement M

@@ -44,10 +44,11 @@ passed c = sym (c .before .code .ensures) ∙ c .if1 .left
 
 returns : tie.Need-returns Inv-loop μ-loop
 returns c =
-    let j = c .before .before in
+    let j = c .before .before .before in
     let f = j .before .before in
     (rw (c .before .line-number-of .ensures) at (c .reading-of .ensures))
-    ∙ lines-refused (next-line f) _ (f .before .before .before .loop .inv .0) (λ q. j .if1 .taken (j .before .code .ensures ∙ q))
+    ∙ lines-refused (next-line f) _ (c .before .before .flow-field .ensures) _ (f .before .before .before .loop .inv .0)
+    (λ q. j .if1 .taken (j .before .code .ensures ∙ q))
 
 flow-of-requires : tie.Need-flow-of-requires Inv-loop μ-loop
 flow-of-requires c κs = let g = lines-good (next-line (c .before .before)) (passed c) in (g .four, g .few)
@@ -88,6 +89,7 @@ read-flows-spec =
     (λ c κs. search needs)
     (λ c κs. search needs)
     loop-holds
+    (λ c κs. search needs)
     (λ c κs. search needs)
     (λ c κs. search needs)
     (λ c κs. search needs)

@@ -3,7 +3,7 @@
 
 use crate::{hold_bounds, hold_verdict, Tally};
 use second::host::{bound_of_text, bytes_of_state, step_of_text, verdict_of_text};
-use second::inputs::{records, sets, texts, Rng};
+use second::inputs::{records, sets, Rng};
 use second::plan::MOST_BYTES;
 use second::write::text_of;
 use second::{Refusal, Set, State};
@@ -72,13 +72,9 @@ pub fn walk_over(tally: &mut Tally, rng: &mut Rng, bytes: &[u8], slots: u32) {
     }
 }
 
-/// Every refusal of a text and of a state, and the longest input that is read with one byte more.
+/// Every refusal of a state, and the longest input that is read with one byte more.
 pub fn named(tally: &mut Tally) {
     let mut rng = Rng::new(tally.seed);
-    for faults in texts::pairs() {
-        let damaged = texts::damaged(&mut rng, faults);
-        over_text(tally, &mut rng, &damaged.text);
-    }
     for length in [MOST_BYTES, MOST_BYTES + 1] {
         // the room is drawn: once might be once too short to show the difference
         for _ in 0..16 {

@@ -2,7 +2,8 @@
 //! exact, one short, one to three longer, or none. On a refusal nothing changes; otherwise what stands behind the table or the lines stays.
 
 use crate::{calls, Tally};
-use compare::{Record, Superframe};
+use compare::{Fault, Record, Superframe};
+use second::inputs::named::typed;
 use second::inputs::{records, superframes, tables, texts, Rng};
 use second::superframe::{superframe_of_text, superframe_size_of_text};
 use second::table::lines_of;
@@ -141,7 +142,7 @@ fn write(tally: &mut Tally, rng: &mut Rng, table: &[u16]) {
         let (mut ours, mut theirs) = (vec![BEFORE_BYTE; room], vec![BEFORE_BYTE; room]);
         let (a, b) = (compare::table_write(table, &mut ours), second::write_table(table, &mut theirs));
         calls::count(tally, b.refusal);
-        tally.fault("a table's writing", &Set::BLANK, a.fault, b.refusal);
+        tally.fault("a table's writing", &Set::BLANK, a.fault(), b.refusal);
         let same = a.length == b.bytes && ours == theirs && ours[b.bytes..].iter().all(|&byte| byte == BEFORE_BYTE);
         tally.hold("a table's lines", &Set::BLANK, same, || format!("{a:?}, {b:?}, room {room}, {:?}", head(table)));
     }
@@ -155,7 +156,7 @@ fn over_lines(tally: &mut Tally, rng: &mut Rng, lines: &[u8]) {
         let (a, (refusal, wrote)) = (compare::table_read(lines, &mut ours), second::read_table(lines, &mut theirs));
         calls::count(tally, refusal);
         tally.lines[usize::from(refusal.number)] += 1;
-        tally.fault("a table's reading", &Set::BLANK, a.fault, refusal);
+        tally.fault("a table's reading", &Set::BLANK, a.fault(), refusal);
         let same = a.length == wrote && ours == theirs && ours[wrote..].iter().all(|&number| number == BEFORE);
         tally.hold("the table read", &Set::BLANK, same, || format!("{a:?}, {wrote}, room {room}, {:?}", String::from_utf8_lossy(head(lines))));
     }
@@ -163,9 +164,9 @@ fn over_lines(tally: &mut Tally, rng: &mut Rng, lines: &[u8]) {
 
 /// Lines with a chosen damage are refused for it by the proved reader, whatever the second planner says.
 fn hold_damage(tally: &mut Tally, damaged: &texts::Damaged) {
-    let fault = compare::table_read(&damaged.text, &mut vec![0; damaged.text.len()]).fault;
-    let same = (fault.refusal, fault.line) == (damaged.refusal.number.into(), damaged.refusal.line);
-    tally.hold("damaged lines", &Set::BLANK, same, || format!("{fault:?}, {:?}", String::from_utf8_lossy(&damaged.text)));
+    let a = compare::table_read(&damaged.text, &mut vec![0; damaged.text.len()]);
+    let same = (a.refusal, a.line) == (damaged.refusal.number.into(), damaged.refusal.line);
+    tally.hold("damaged lines", &Set::BLANK, same, || format!("{a:?}, {:?}", String::from_utf8_lossy(&damaged.text)));
 }
 
 /// The channel for any three numbers, maps and small offsets more often.
@@ -184,10 +185,10 @@ fn channels(tally: &mut Tally, rng: &mut Rng) {
 pub fn named(tally: &mut Tally) {
     let mut rng = Rng::new(tally.seed);
     for (text, number, hyper, numbers) in named_sets() {
-        let text = text.replace(' ', "\t").replace(';', "\n");
+        let text = typed(text);
         let (a, set) = (compare::text_superframe_size(text.as_bytes()), second::read(text.as_bytes()).set);
-        let same = (a.fault.refusal, a.fault.line, a.hyper, a.numbers) == (number, 0, hyper, numbers);
-        tally.hold("a set of request 2", &set, same, || format!("{a:?}"));
+        let wanted = Superframe { fault: Fault { refusal: number, line: 0, field: 0 }, hyper, numbers };
+        tally.hold("a set of request 2", &set, a == wanted, || format!("{a:?}"));
         over_set(tally, &mut rng, &set);
     }
     for set in [superframes::f3(), superframes::most_rows(), superframes::many()] {

@@ -69,8 +69,7 @@ impl Tally {
     /// Holds what both planners say of a refusal together, and counts it.
     fn fault(&mut self, what: &str, input: &Set, proved: Fault, other: Refusal) {
         self.refusals[usize::from(other.number)] += 1;
-        let same = proved.refusal == u32::from(other.number) && proved.line == other.line;
-        self.hold(what, input, same, || format!("{proved:?} and {other:?}"));
+        self.hold(what, input, proved == other.into(), || format!("{proved:?} and {other:?}"));
     }
 
     /// Fails with the input where the two differ.
@@ -97,6 +96,7 @@ fn main() {
     named::found_by_hand(&mut tally);
     named::at_the_limits(&mut tally);
     named::refused(&mut tally);
+    named::fields(&mut tally);
     named::behind_the_end(&mut tally);
     calls::named(&mut tally);
     loading::named(&mut tally);
@@ -127,6 +127,8 @@ fn seeds(first: u64, end: Instant) -> Tally {
         let mut rng = Rng::new(tally.seed);
         for _ in 0..20 {
             read_and_write(&mut tally, &texts::any(&mut rng));
+            let faults = rng.pick(&texts::pairs());
+            named::damaged(&mut tally, &texts::damaged(&mut rng, faults));
             over_record(&mut tally, &mut rng);
             let text = if rng.once_in(2) { texts::good(&mut rng) } else { texts::any(&mut rng) };
             calls::over_text(&mut tally, &mut rng, &text);

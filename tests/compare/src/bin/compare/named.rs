@@ -1,13 +1,13 @@
 //! Cases with a name: document 01's "run only" list, sets whose answers were found by hand, and each refusal by itself. The proved planner's
 //! answers are held against the expected ones, and then every function against the second planner's.
 
-use crate::{calls, hold_bounds, hold_verdict, one_step, read_and_write, Tally};
+use crate::{calls, hold_bounds, hold_verdict, loading, one_step, read_and_write, Tally};
 use compare::{Fault, Record};
 use second::host::{bytes_of_state, step_of_text, verdict_of_text};
 use second::inputs::named::{self, Named};
-use second::inputs::{ring64, sets, Rng};
+use second::inputs::{ring64, sets, texts, Rng};
 use second::write::text_of;
-use second::{Machine, Set, Slot, State};
+use second::{Machine, Refusal, Set, Slot, State};
 
 /// How many slots of a named set are compared one by one.
 const SLOTS: u32 = 60;
@@ -110,7 +110,7 @@ pub fn behind_the_end(tally: &mut Tally) {
                 _ => 7,
             };
             let line = if number == 0 { 0 } else { 2 };
-            hold_fault(tally, "nodes behind a route's end", Record::new(&set).fault(), number, line);
+            hold_fault(tally, "nodes behind a route's end", Record::new(&set).fault(), Refusal::at(number, line));
             through_records(tally, &set);
         }
     }
@@ -119,15 +119,13 @@ pub fn behind_the_end(tally: &mut Tally) {
 /// Each refusal of a text by itself, then 10 to 13 by themselves.
 pub fn refused(tally: &mut Tally) {
     let mut rng = Rng::new(tally.seed);
-    for (name, text, number, line) in named::refused() {
-        hold_fault(tally, name, compare::text_verdict(text.as_bytes()).fault, number.into(), line);
-        read_and_write(tally, text.as_bytes());
-        calls::over_text(tally, &mut rng, text.as_bytes());
+    for (name, text, refusal) in named::refused() {
+        refused_text(tally, &mut rng, name, text.as_bytes(), refusal);
     }
     let text = b"set\t3\nflow\t10\t8\t0\t1\t1\t2\t3\nflow\t20\t20\t0\t1\t4\t2\t5\n";
     let record = Record::new(&compare::read(text).1);
     for flow in [2, 63, 64, 65_536, u32::MAX] {
-        hold_fault(tally, "no flow of that number", compare::text_bounds(text, flow).fault, 13, 0);
+        hold_fault(tally, "no flow of that number", compare::text_bounds(text, flow).fault, Refusal::at(13, 0));
     }
     let bad = |slot, count: u8, beyond: u8| {
         let mut st = State { slot, ..State::FRESH };
@@ -143,19 +141,61 @@ pub fn refused(tally: &mut Tally) {
     ];
     for (name, st, number) in states {
         let lines = &mut [0; 100];
-        hold_fault(tally, name, compare::text_slot(text, &mut bytes_of_state(&st), lines).fault, number, 0);
-        hold_fault(tally, name, record.step(&st).fault, number, 0);
+        hold_fault(tally, name, compare::text_slot(text, &mut bytes_of_state(&st), lines).fault, Refusal::at(number, 0));
+        hold_fault(tally, name, record.step(&st).fault, Refusal::at(number, 0));
     }
     let length = step_of_text(text, &mut bytes_of_state(&State::FRESH), &mut [0; 100]).bytes;
     for (room, number) in [(0, 10), (length - 1, 10), (length, 0)] {
         let (mut state, mut lines) = (bytes_of_state(&State::FRESH), vec![0; room]);
-        hold_fault(tally, "room for a slot's lines", compare::text_slot(text, &mut state, &mut lines).fault, number, 0);
+        hold_fault(tally, "room for a slot's lines", compare::text_slot(text, &mut state, &mut lines).fault, Refusal::at(number, 0));
     }
-    hold_fault(tally, "67 bytes of state", compare::text_slot(text, &mut [0; 67], &mut [0; 100]).fault, 12, 0);
+    hold_fault(tally, "67 bytes of state", compare::text_slot(text, &mut [0; 67], &mut [0; 100]).fault, Refusal::at(12, 0));
 }
 
-fn hold_fault(tally: &mut Tally, name: &str, fault: Fault, refusal: u32, line: usize) {
-    tally.hold(name, &Set::BLANK, fault == Fault { refusal, line }, || format!("{fault:?}"));
+fn hold_fault(tally: &mut Tally, name: &str, fault: Fault, refusal: Refusal) {
+    tally.hold(name, &Set::BLANK, fault == refusal.into(), || format!("{fault:?}, not {refusal:?}"));
+}
+
+/// A text that must be refused just so, by the reader and by every call of C; and then as the second planner says.
+fn refused_text(tally: &mut Tally, rng: &mut Rng, name: &str, text: &[u8], refusal: Refusal) {
+    let faults = [
+        compare::read(text).0,
+        compare::text_verdict(text).fault,
+        compare::text_bounds(text, 0).fault,
+        compare::text_all_bounds(text, &mut []).fault,
+        compare::text_slot(text, &mut [], &mut []).fault,
+        compare::text_superframe_size(text).fault,
+        compare::text_superframe(text, &mut []).fault,
+    ];
+    for fault in faults {
+        hold_fault(tally, name, fault, refusal);
+    }
+    read_and_write(tally, text);
+    calls::over_text(tally, rng, text);
+    loading::over_text(tally, rng, text);
+}
+
+/// Request 3: its texts, every pair of faults in a line, and lines of 8,000 and of 100,000 fields.
+pub fn fields(tally: &mut Tally) {
+    let mut rng = Rng::new(tally.seed);
+    for (text, refusal) in named::fields() {
+        refused_text(tally, &mut rng, &format!("the field of {text:?}"), text.as_bytes(), refusal);
+    }
+    for faults in texts::pairs() {
+        for _ in 0..20 {
+            let damaged = texts::damaged(&mut rng, faults);
+            refused_text(tally, &mut rng, &format!("a line with {faults:?}"), &damaged.text, damaged.refusal);
+        }
+    }
+    for long in texts::long_lines() {
+        refused_text(tally, &mut rng, "a long line", &long.text, long.refusal);
+    }
+}
+
+/// A text with faults put into a line is refused for the lower one, at its field, whatever the second planner says.
+pub fn damaged(tally: &mut Tally, damaged: &texts::Damaged) {
+    hold_fault(tally, "a damaged text", compare::read(&damaged.text).0, damaged.refusal);
+    read_and_write(tally, &damaged.text);
 }
 
 /// Document 01's "run only" list.
