@@ -46,23 +46,37 @@ fault-free : (s : FlowSet) (k : ℕ) → good (recordFault s .refusal) ≡ true 
 unfolding boundsFault
 fault-free s k e h = rw (e, lt-leb (s .count) k h)
 
--- and the answer by it
-bounds-by : (s : FlowSet) (k : ℕ) (f : Fault) (b : Bool) → boundsFault s k ≡ f → good (f .refusal) ≡ b → boundsOf s k ≡ boundsIf s k b
-unfolding boundsOf
-bounds-by s k f b p q = ap (λ (g : Fault). boundsIf s k (good (g .refusal))) p ∙ ap (boundsIf s k) q
+-- and an answer about one flow by it, given or refused
+module _ {A : Type 0} (answer : Bool → A) (refused : Fault → A) (s : FlowSet) (k : ℕ) (no : answer false ≡ refused (boundsFault s k)) where
+  abbrev answered : A
+  answered = answer (good (boundsFault s k .refusal))
+
+  answer-by : (f : Fault) (b : Bool) → boundsFault s k ≡ f → good (f .refusal) ≡ b → answered ≡ answer b
+  answer-by f b p q = ap (λ (g : Fault). answer (good (g .refusal))) p ∙ ap answer q
+
+  refusal-by : (f : Fault) → boundsFault s k ≡ f → good (f .refusal) ≡ false → refused f ≡ answered
+  refusal-by f p q = ap refused (sym p) ∙ sym no ∙ sym (answer-by f false p q)
+
+  pub answer-refused : (f : Fault) → good (recordFault s .refusal) ≡ false → f ≡ recordFault s → refused f ≡ answered
+  answer-refused f e p = ap refused p ∙ refusal-by (recordFault s) (fault-record s k e) e
+
+  pub answer-none : good (recordFault s .refusal) ≡ true → s .count ≤ k → refused (faultAt NoSuchFlow 0) ≡ answered
+  answer-none e h = refusal-by (faultAt NoSuchFlow 0) (fault-none s k e h) refl
+
+  pub answer-given : good (recordFault s .refusal) ≡ true → k < s .count → answer true ≡ answered
+  answer-given e h = sym (answer-by noFault true (fault-free s k e h) refl)
 
 pub bounds-refused : (s : FlowSet) (k : ℕ) (f : Fault) → good (recordFault s .refusal) ≡ false → f ≡ recordFault s → refusedBounds f ≡ boundsOf s k
-bounds-refused s k f e p =
-    let q = fault-record s k e in
-    ap refusedBounds (p ∙ sym q) ∙ sym (bounds-by s k (recordFault s) false q e)
+unfolding boundsOf
+bounds-refused s k = answer-refused (boundsIf s k) refusedBounds s k refl
 
 pub bounds-none : (s : FlowSet) (k : ℕ) → good (recordFault s .refusal) ≡ true → s .count ≤ k → refusedBounds (faultAt NoSuchFlow 0) ≡ boundsOf s k
-bounds-none s k e h =
-    let q = fault-none s k e h in
-    ap refusedBounds (sym q) ∙ sym (bounds-by s k (faultAt NoSuchFlow 0) false q refl)
+unfolding boundsOf
+bounds-none s k = answer-none (boundsIf s k) refusedBounds s k refl
 
 pub bounds-given : (s : FlowSet) (k : ℕ) → good (recordFault s .refusal) ≡ true → k < s .count → boundsIf s k true ≡ boundsOf s k
-bounds-given s k e h = sym (bounds-by s k noFault true (fault-free s k e h) refl)
+unfolding boundsOf
+bounds-given s k = answer-given (boundsIf s k) refusedBounds s k refl
 
 -- "every", one more at a time, and of equal tests
 pub all-zero : (p : ℕ → Bool) → allTo p 0 ≡ true
@@ -93,14 +107,6 @@ pub tight-entry : (s : FlowSet) (r : AllBounds) → AllBoundsOf s r → good (re
     → getD (r .tightened) k 0 ≡ tightBound s k
 tight-entry s r o e k h = o .tights k ∙ sym (ap (λ (x : Bounds). x .tightened) (bounds-given s k e h))
 
--- its fault is the record check's
-pub fault-entry : (s : FlowSet) (r : AllBounds) → AllBoundsOf s r → good (r .fault .refusal) ≡ good (recordFault s .refusal)
-fault-entry s r o = ap (λ (f : Fault). good (f .refusal)) (o .fault) ∙ go (good (recordFault s .refusal)) refl
-  where
-    go : (b : Bool) → good (recordFault s .refusal) ≡ b → good (verdictOf s .fault .refusal) ≡ b
-    go true e = ap (λ (v : Verdict). good (v .fault .refusal)) (verdict-good s e)
-    go false e = ap (λ (v : Verdict). good (v .fault .refusal)) (verdict-bad s e) ∙ e
-
 -- the verdict and the bounds, put together from it
 pub verdict-made : (s : FlowSet) (r : AllBounds) (b t : Bool) → AllBoundsOf s r → good (recordFault s .refusal) ≡ true
     → b ≡ admits s (λ k. getD (r .basic) k 0) → t ≡ admits s (λ k. getD (r .tightened) k 0)
@@ -122,21 +128,28 @@ bounds-made s k f w b t d m p q r x y z =
     let e : m ≡ pos (flowAt s k .deadline .0) -ℤ pos (tightBound s k) = z ∙ ap₂ (λ (i : Span) (j : ℕ). pos (i .0) -ℤ pos j) y x in
     λ i. record { fault = p i; work = q i; basic = r i; tightened = x i; deadline = y i; margin = e i }
 
--- whether the fault refuses the set
-pub passed-by : (s : FlowSet) (r : AllBounds) (b : Bool) → AllBoundsOf s r → b ≡ not (good (r .fault .refusal)) → b ≡ false
+-- the verdict's fault is the record check's, or none
+pub fault-given : (s : FlowSet) → good (recordFault s .refusal) ≡ true → verdictOf s .fault ≡ noFault
+fault-given s e = ap (λ (v : Verdict). v .fault) (verdict-good s e)
+
+pub fault-refused : (s : FlowSet) → good (recordFault s .refusal) ≡ false → verdictOf s .fault ≡ recordFault s
+fault-refused s e = ap (λ (v : Verdict). v .fault) (verdict-bad s e)
+
+-- so it refuses the set where that does
+fault-entry : (s : FlowSet) → good (verdictOf s .fault .refusal) ≡ good (recordFault s .refusal)
+fault-entry s = go (good (recordFault s .refusal)) refl
+  where
+    go : (b : Bool) → good (recordFault s .refusal) ≡ b → good (verdictOf s .fault .refusal) ≡ b
+    go true e = ap (λ (f : Fault). good (f .refusal)) (fault-given s e)
+    go false e = ap (λ (f : Fault). good (f .refusal)) (fault-refused s e) ∙ e
+
+pub passed-by : (s : FlowSet) (f : Fault) (b : Bool) → f ≡ verdictOf s .fault → b ≡ not (good (f .refusal)) → b ≡ false
     → good (recordFault s .refusal) ≡ true
-passed-by s r b o h z = sym (fault-entry s r o) ∙ not-refused (r .fault) (r .fault) b refl h z
+passed-by s f b o h z = sym (fault-entry s) ∙ not-refused f (verdictOf s .fault) b o h z
 
-pub refused-by : (s : FlowSet) (r : AllBounds) (b : Bool) → AllBoundsOf s r → b ≡ not (good (r .fault .refusal)) → b ≡ true
+pub refused-by : (s : FlowSet) (f : Fault) (b : Bool) → f ≡ verdictOf s .fault → b ≡ not (good (f .refusal)) → b ≡ true
     → good (recordFault s .refusal) ≡ false
-refused-by s r b o h z = sym (fault-entry s r o) ∙ is-refused (r .fault) (r .fault) b refl h z
+refused-by s f b o h z = sym (fault-entry s) ∙ is-refused f (verdictOf s .fault) b o h z
 
--- the fault of a bound is that fault, or none
-pub fault-refused : (s : FlowSet) (r : AllBounds) → AllBoundsOf s r → good (recordFault s .refusal) ≡ false → r .fault ≡ recordFault s
-fault-refused s r o e = o .fault ∙ ap (λ (w : Verdict). w .fault) (verdict-bad s e)
-
-pub verdict-refused : (s : FlowSet) (r : AllBounds) → AllBoundsOf s r → good (recordFault s .refusal) ≡ false → refusedVerdict (r .fault) ≡ verdictOf s
-verdict-refused s r o e = ap refusedVerdict (fault-refused s r o e) ∙ sym (verdict-bad s e)
-
-pub fault-given : (s : FlowSet) (r : AllBounds) → AllBoundsOf s r → good (recordFault s .refusal) ≡ true → r .fault ≡ noFault
-fault-given s r o e = o .fault ∙ ap (λ (w : Verdict). w .fault) (verdict-good s e)
+pub verdict-refused : (s : FlowSet) (f : Fault) → f ≡ verdictOf s .fault → good (recordFault s .refusal) ≡ false → refusedVerdict f ≡ verdictOf s
+verdict-refused s f o e = ap refusedVerdict (o ∙ fault-refused s e) ∙ sym (verdict-bad s e)

@@ -12,6 +12,7 @@ use crate::two::TwoStepped;
 use crate::two::TwoU16;
 use model::ChannelMap;
 use model::FlowSet;
+use model::Order;
 use model::Slot;
 use model::State;
 
@@ -31,12 +32,12 @@ pub fn run(s: FlowSet, budget: u32) -> TwoRan
     TwoRan(a, b)
 }
 
-pub fn step_accepted(s: FlowSet, st: State) -> TwoStepped
+pub fn step_accepted(by: Order, s: FlowSet, st: State) -> TwoStepped
     requires { ⌜ good (recordFault (used s) .refusal) ≡ true ⌝ }
     ensures { λ r. ⌜ r .0 ≡ r .1 ⌝ }
 {
-    let a = machine::step_accepted(s, st);
-    let b = machine::step_accepted(s, st);
+    let a = machine::step_accepted(by, s, st);
+    let b = machine::step_accepted(by, s, st);
     TwoStepped(a, b)
 }
 

@@ -9,8 +9,8 @@ use Rattle.model.specs.declared.answers.{Reading.{Reading}, Verdict.{Verdict}, 
 use Rattle.model.specs.declared.answers.{VerdictAnswer.{VerdictAnswer}, BoundsAnswer.{BoundsAnswer}, SlotAnswer.{SlotAnswer}, TableAnswer.{TableAnswer}}
 use Rattle.model.specs.declared.answers.{SuperframeAnswer.{SuperframeAnswer}, LinesAnswer.{LinesAnswer}, RowsAnswer.{RowsAnswer}, Tabled.{Tabled}}
 use Rattle.model.specs.{Refusals.{good, refusalNumber, faultAt, noFault, orElse, refusedVerdict, refusedBounds, refusedTable}, Sums.{bit}, Sets.{used}}
-use Rattle.document.specs.{Reader.{readText}, Delay.{verdictOf, boundsOf}, Program.{slotLines, slotFault}}
-use Rattle.document.specs.{Machine.{radioChannel}, Superframe.{sizeAnswer, superframeAnswer, superframeInto, writeTableAnswer, readTableAnswer}}
+use Rattle.document.specs.{Reader.{readText}, Delay.{verdictOf, boundsOf}, Program.{slotLinesWith, slotFaultWith}}
+use Rattle.document.specs.{Machine.{Priority, ahead, radioChannel}, Superframe.{sizeAnswer, superframeAnswer, superframeInto, writeTableAnswer, readTableAnswer}}
 
 -- the numbers of an answer: the refusal by its number, a test as 1 or 0
 abbrev pub verdictNumbers : Verdict → VerdictAnswer
@@ -50,12 +50,12 @@ verdictOfReading r = cond (good (r .fault .refusal)) (verdictOf (used (r .set)))
 unfoldable pub boundsOfReading : Reading → ℕ → Bounds
 boundsOfReading r flow = cond (good (r .fault .refusal)) (boundsOf (used (r .set)) flow) (refusedBounds (r .fault))
 
--- one slot: the fault, and how many bytes of the second buffer are the slot's lines
-unfoldable pub slotAnswer : Reading → List ℕ → ℕ → Written
-slotAnswer r state room =
+-- one slot, with any order of priority: the fault, and how many bytes of the second buffer are the slot's lines
+unfoldable pub slotAnswerWith : Priority → Reading → List ℕ → ℕ → Written
+slotAnswerWith first r state room =
     record {
-      fault = slotFault r state room;
-      length = cond (good (slotFault r state room .refusal)) (length (slotLines (used (r .set)) state)) 0;
+      fault = slotFaultWith first r state room;
+      length = cond (good (slotFaultWith first r state room .refusal)) (length (slotLinesWith first (used (r .set)) state)) 0;
     }
 
 -- the bounds of flows 0 .. n − 1 one after the other, four numbers a flow: C, basic, tightened, deadline
@@ -92,8 +92,11 @@ verdictForC text = verdictNumbers (verdictOfReading (readText text))
 unfoldable pub boundsForC : List ℕ → ℕ → BoundsAnswer
 boundsForC text flow = boundsNumbers (boundsOfReading (readText text) flow)
 
-unfoldable pub slotForC : List ℕ → List ℕ → ℕ → SlotAnswer
-slotForC text state room = slotNumbers (slotAnswer (readText text) state room)
+unfoldable pub slotForCWith : Priority → List ℕ → List ℕ → ℕ → SlotAnswer
+slotForCWith first text state room = slotNumbers (slotAnswerWith first (readText text) state room)
+
+abbrev pub slotForC : List ℕ → List ℕ → ℕ → SlotAnswer
+slotForC = slotForCWith ahead
 
 unfoldable pub allBoundsForC : List ℕ → ℕ → TableAnswer
 allBoundsForC text room = tableNumbers (tableAnswer (readText text) room)

@@ -1,10 +1,10 @@
 -- Document 01, "The slot machine", rule by rule, for any order of priority in rule 4; document 01's own comes last, under the names that
--- the rest of the planner uses. A set here is one without the entries that don't count (`used`); t is a slot,
+-- the rest of the planner uses. Request 4's order stands beside it. A set here is one without the entries that don't count (`used`); t is a slot,
 -- n the count that the state holds for a flow.
 use mathlib.Core.{Bool.{Bool, true, false, not, _&&_, _||_, cond}, List.{List, [], _∷_, _++_}}
 use Prim.Native.Nat.{ℕ, zero, suc, _+_, _-_, _*_, _/_, _%_, _^_}
 use lib.{Count.{ones}, Dec.{leb, ltb, eqb}, ListN.{length, getD, take, replicate}}
-use Rattle.model.specs.declared.kinds.{Flow.{Flow}, FlowSet.{FlowSet}, State.{State}}
+use Rattle.model.specs.declared.kinds.{Flow.{Flow}, FlowSet.{FlowSet}, State.{State}, Order.{Order}, Order.the-variants.{Deadline, Number}}
 use Rattle.model.specs.declared.answers.{Fault.{Fault}, Send.{Send}, Delivery.{Delivery}, Stepped.{Stepped}, Ran.{Ran}}
 use Rattle.model.specs.declared.answers.Refusal.the-variants.{AtLastSlot, BadState}
 use Rattle.model.specs.{Limits.{firstChannel, mostChannels, mostFlows, lastSlot}, Refusals.{good, faultAt, noFault, orElse}, Sums.{bit, anyTo}}
@@ -69,6 +69,15 @@ Priority = FlowSet → State → ℕ → ℕ → Bool
 -- document 01's order: earlier absolute deadline, then lower flow number
 abbrev pub ahead : Priority
 ahead s st k l = ltb (dueAt s st k) (dueAt s st l) || (eqb (dueAt s st k) (dueAt s st l) && ltb k l)
+
+-- request 4's order: lower flow number alone
+abbrev pub lower : Priority
+lower s st k l = ltb k l
+
+-- the order that each case of the machine's argument stands for
+abbrev pub orderOf : Order → Priority
+orderOf Deadline = ahead
+orderOf Number = lower
 
 -- k put before the first that it goes ahead of
 unfoldable pub insert : (ℕ → ℕ → Bool) → ℕ → List ℕ → List ℕ

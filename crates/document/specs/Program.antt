@@ -7,7 +7,7 @@ use Rattle.model.specs.declared.answers.{Fault.{Fault}, Reading.{Reading}, Refu
 use Rattle.model.specs.declared.answers.{Verdict.{Verdict}, Bounds.{Bounds}, Written.{Written}}
 use Rattle.model.specs.{Limits.{mostFlows}, Refusals.{good, refusalNumber, faultAt, noFault, orElse}, Sums.{bit}, Sets.{used}}
 use Rattle.document.specs.{Text.{decimal, decimals, lineOf, tabbed}, Reader.{readText, refusedWriting, wrote}, Delay.{verdictOf, boundsOf}}
-use Rattle.document.specs.Machine.{sendsAt, nextState, stepFault, runOf}
+use Rattle.document.specs.Machine.{Priority, ahead, sendsWith, nextWith, stepFault, runWith}
 
 -- a state is 68 bytes for C: the slot in four bytes, lowest first, then one count byte for each of 64 flows
 abbrev pub stateLength : ℕ
@@ -35,28 +35,42 @@ unfoldable pub sendLines : List Send → List ℕ
 sendLines [] = []
 sendLines (x ∷ xs) = lineOf sendWord (sendNumbers x) ++ sendLines xs
 
--- one slot for C. The text is read first, with the reader's refusals; then 12, also for a length other than 68, 11 and 10
-unfoldable pub slotLines : FlowSet → List ℕ → List ℕ
-slotLines s state = sendLines (sendsAt s (stateOf state))
+-- one slot for C, with any order of priority. The text is read first, with the reader's refusals; then 12, also for a length other than 68, 11
+-- and 10
+unfoldable pub slotLinesWith : Priority → FlowSet → List ℕ → List ℕ
+slotLinesWith first s state = sendLines (sendsWith first s (stateOf state))
 
-unfoldable pub slotFault : Reading → List ℕ → ℕ → Fault
-slotFault r state room =
+unfoldable pub slotFaultWith : Priority → Reading → List ℕ → ℕ → Fault
+slotFaultWith first r state room =
     orElse (r .fault)
     (cond (eqb (length state) stateLength)
     (orElse (stepFault (used (r .set)) (stateOf state))
-    (cond (ltb room (length (slotLines (used (r .set)) state))) (faultAt NoRoom 0) noFault))
+    (cond (ltb room (length (slotLinesWith first (used (r .set)) state))) (faultAt NoRoom 0) noFault))
     (faultAt BadState 0))
 
 -- on success the next state stands in the 68 bytes and the `send` lines at the start of the second buffer; its further bytes stay
-unfoldable pub slotState : Reading → List ℕ → ℕ → List ℕ
-slotState r state room =
-    cond (good (slotFault r state room .refusal)) (stateBytes (nextState (used (r .set)) (stateOf state))) state
+unfoldable pub slotStateWith : Priority → Reading → List ℕ → ℕ → List ℕ
+slotStateWith first r state room =
+    cond (good (slotFaultWith first r state room .refusal)) (stateBytes (nextWith first (used (r .set)) (stateOf state))) state
 
-unfoldable pub slotBuffer : Reading → List ℕ → List ℕ → List ℕ
-slotBuffer r state buffer =
-    cond (good (slotFault r state (length buffer) .refusal))
-    (slotLines (used (r .set)) state ++ drop (length (slotLines (used (r .set)) state)) buffer)
+unfoldable pub slotBufferWith : Priority → Reading → List ℕ → List ℕ → List ℕ
+slotBufferWith first r state buffer =
+    cond (good (slotFaultWith first r state (length buffer) .refusal))
+    (slotLinesWith first (used (r .set)) state ++ drop (length (slotLinesWith first (used (r .set)) state)) buffer)
     buffer
+
+-- with document 01's order
+abbrev pub slotLines : FlowSet → List ℕ → List ℕ
+slotLines = slotLinesWith ahead
+
+abbrev pub slotFault : Reading → List ℕ → ℕ → Fault
+slotFault = slotFaultWith ahead
+
+abbrev pub slotState : Reading → List ℕ → ℕ → List ℕ
+slotState = slotStateWith ahead
+
+abbrev pub slotBuffer : Reading → List ℕ → List ℕ → List ℕ
+slotBuffer = slotBufferWith ahead
 
 -- `refused`: number, line, field
 abbrev pub refusedWord : List ℕ
@@ -90,35 +104,50 @@ unfoldable pub boundLines : FlowSet → ℕ → List ℕ
 boundLines s zero = []
 boundLines s (suc n) = boundLines s n ++ boundLine n (boundsOf s n)
 
--- the `send` lines of the first n slots from the fresh state
-unfoldable pub runLines : FlowSet → ℕ → List ℕ
-runLines s zero = []
-runLines s (suc n) = runLines s n ++ sendLines (sendsAt s (runOf s n .last))
+-- the `send` lines of the first n slots from the fresh state, with any order of priority
+unfoldable pub runLinesWith : Priority → FlowSet → ℕ → List ℕ
+runLinesWith first s zero = []
+runLinesWith first s (suc n) = runLinesWith first s n ++ sendLines (sendsWith first s (runWith first s n .last))
+
+abbrev pub runLines : FlowSet → ℕ → List ℕ
+runLines = runLinesWith ahead
 
 -- the plan of a set, through slot 11
 unfoldable pub planOf : FlowSet → List ℕ
 planOf s = verdictLine (verdictOf s) ++ boundLines s (s .count) ++ runLines s 12
 
--- what the program prints
-abbrev pub planIf : Reading → Bool → List ℕ
-planIf r true = planOf (used (r .set))
-planIf r false = refusedLine (r .fault)
+-- what a program prints that says `says` of a set
+abbrev pub printIf : (FlowSet → List ℕ) → Reading → Bool → List ℕ
+printIf says r true = says (used (r .set))
+printIf says r false = refusedLine (r .fault)
 
 -- input of more bytes is not read
 abbrev pub mostInput : ℕ
 mostInput = 16384
 
-unfoldable pub planText : List ℕ → List ℕ
-planText input =
+unfoldable pub printText : (FlowSet → List ℕ) → List ℕ → List ℕ
+printText says input =
     elim (ltb mostInput (length input)) [
       | true ↦ refusedLine (faultAt NoRoom 0)
-      | false ↦ planIf (readText input) (good (readText input .fault .refusal))
+      | false ↦ printIf says (readText input) (good (readText input .fault .refusal))
     ]
 
 -- the same into a lent buffer: the text at its start, and further bytes stay; a buffer that is too short is left alone, with refusal 10
-unfoldable pub planAnswer : List ℕ → ℕ → Written
-planAnswer input room = cond (ltb room (length (planText input))) (refusedWriting (faultAt NoRoom 0)) (wrote (length (planText input)))
+unfoldable pub printAnswer : (FlowSet → List ℕ) → List ℕ → ℕ → Written
+printAnswer says input room =
+    cond (ltb room (length (printText says input))) (refusedWriting (faultAt NoRoom 0)) (wrote (length (printText says input)))
 
-unfoldable pub planInto : List ℕ → List ℕ → List ℕ
-planInto input buffer =
-    cond (ltb (length buffer) (length (planText input))) buffer (planText input ++ drop (length (planText input)) buffer)
+unfoldable pub printInto : (FlowSet → List ℕ) → List ℕ → List ℕ → List ℕ
+printInto says input buffer =
+    cond (ltb (length buffer) (length (printText says input))) buffer
+    (printText says input ++ drop (length (printText says input)) buffer)
+
+-- the plan program says the plan
+abbrev pub planText : List ℕ → List ℕ
+planText = printText planOf
+
+abbrev pub planAnswer : List ℕ → ℕ → Written
+planAnswer = printAnswer planOf
+
+abbrev pub planInto : List ℕ → List ℕ → List ℕ
+planInto = printInto planOf

@@ -10,7 +10,7 @@ use Rattle.model.specs.declared.answers.{Fault.{Fault}, Reading.{Reading}, Tabl
 use Rattle.model.specs.declared.answers.Refusal.the-variants.{BadForm, NoRoom, NotAdmitted, LateStart, LongHyperPeriod}
 use Rattle.model.specs.{Refusals.{good, faultAt, noFault, orElse, refusedTable}, Sums.{anyTo}, Sets.{flowAt, used}}
 use Rattle.document.specs.{Text.{lines, ended, fields, allNumbers, valuesOf, decimal, lineOf}, Reader.{recordFault, readText, wrote, refusedWriting}}
-use Rattle.document.specs.{Delay.{period, verdictOf}, Machine.{placedAt, hadAt, runOf}, Program.{mostInput, refusedLine}}
+use Rattle.document.specs.{Delay.{period, verdictOf}, Machine.{Priority, ahead, placedWith, hadAt, runWith}, Program.{mostInput, refusedLine}}
 
 -- the first of the n + 1 multiples of a from j·a on that b divides, else the last of them
 unfoldable pub multipleFrom : ℕ → ℕ → ℕ → ℕ → ℕ
@@ -35,13 +35,20 @@ unfoldable pub rowsFrom : FlowSet → State → ℕ → List ℕ → List (List 
 rowsFrom s st o [] = []
 rowsFrom s st o (k ∷ ks) = (st .slot .0 ∷ k ∷ hadAt s st k ∷ o ∷ []) ∷ rowsFrom s st (o + 1) ks
 
-abbrev pub rowsAt : FlowSet → State → List (List ℕ)
-rowsAt s st = rowsFrom s st 0 (placedAt s st)
+abbrev pub rowsWith : Priority → FlowSet → State → List (List ℕ)
+rowsWith first s st = rowsFrom s st 0 (placedWith first s st)
 
--- the rows of the first n slots of the run from the fresh state
-unfoldable pub rowsTo : FlowSet → ℕ → List (List ℕ)
-rowsTo s zero = []
-rowsTo s (suc n) = rowsTo s n ++ rowsAt s (runOf s n .last)
+-- the rows of the first n slots of the run from the fresh state, with any order of priority
+unfoldable pub rowsToWith : Priority → FlowSet → ℕ → List (List ℕ)
+rowsToWith first s zero = []
+rowsToWith first s (suc n) = rowsToWith first s n ++ rowsWith first s (runWith first s n .last)
+
+-- with document 01's order
+abbrev pub rowsAt : FlowSet → State → List (List ℕ)
+rowsAt = rowsWith ahead
+
+abbrev pub rowsTo : FlowSet → ℕ → List (List ℕ)
+rowsTo = rowsToWith ahead
 
 -- the superframe: every transmission of one hyper-period
 abbrev pub superframe : FlowSet → List (List ℕ)

@@ -16,10 +16,10 @@ use Rattle.document.specs.Reader.{repeatAt, flowFault, flowsFault, recor
 use Rattle.document.specs.BadField.{firstBreaking}
 use Rattle.document.specs.Delay.{conflictWork, share, overOthers, boundWith, basicBound, valueAt, deadlines, lowered, roundTo, roundsIn, reached, tightBound, admits, verdictOf, boundsFault, boundsOf}
 use Rattle.document.specs.Machine.{ready, nextCount, insert, ordered, place, channelsTo, radioChannel, sendOf, sendsFrom, sendsAt, deliveriesOf, droppedAt, badState, stepFault, stepOf, runOf, countWith, deliveredWith, droppedWith, nextWith, placedWith, runWith, stepWith}
-use Rattle.document.specs.Program.{stateLength, stateBytes, stateOf, sendNumbers, sendLines, slotLines, slotFault, slotState, slotBuffer, boundLines, runLines, planOf, planText}
-use Rattle.document.specs.ForC.{verdictOfReading, boundsOfReading, slotAnswer, boundsRows, tableFault, tableAnswer, tableAfter, verdictForC, boundsForC, slotForC, allBoundsForC}
+use Rattle.document.specs.Program.{stateLength, stateBytes, stateOf, sendNumbers, sendLines, slotLinesWith, slotFaultWith, slotState, slotStateWith, slotBuffer, slotBufferWith, boundLines, runLinesWith, planOf, printText, planText}
+use Rattle.document.specs.ForC.{verdictOfReading, boundsOfReading, slotAnswerWith, boundsRows, tableFault, tableAnswer, tableAfter, verdictForC, boundsForC, slotForC, slotForCWith, allBoundsForC}
 use Rattle.document.specs.ForC.{sizeOfReading, superframeOfReading, superframeAfter, sizeForC, superframeForC, writeTableForC, readTableForC, channelForC}
-use Rattle.document.specs.Superframe.{multipleFrom, lcm, hyperTo, hyper, rowsFrom, rowsTo, superframe, flat, sizeFault, superframeFault, sizeAnswer, superframeAnswer, superframeInto, rowLines, rowsIn, writeTableAnswer, writeTableInto, rowFormed, rowOf, above, linesFault, readTableFault, readTableAnswer, readTableInto, superframeText}
+use Rattle.document.specs.Superframe.{multipleFrom, lcm, hyperTo, hyper, rowsFrom, rowsTo, rowsToWith, superframe, flat, sizeFault, superframeFault, sizeAnswer, superframeAnswer, superframeInto, rowLines, rowsIn, writeTableAnswer, writeTableInto, rowFormed, rowOf, above, linesFault, readTableFault, readTableAnswer, readTableInto, superframeText}
 
 -- the bytes of a quoted text
 unfoldable pub bytes : string.String → List ℕ
@@ -671,5 +671,5 @@ points =
     ∷ []
 
 pub every-point : T (every points)
-unfolding every points point allHold holds same? sameSigned faultIs writtenRow slotRow offsetRows deliveryRows reportHolds sendRowsTo flowsOf rows sameRows bytes bytesOf same lines ended fields allDigits valueFrom isNumber allNumbers valuesOf wellFormed numbersOf decimalIn decimal tabbed decimals lineOf repeatAt flowFault flowsFault recordFault flowOf withFlow firstLineFault flowLineFault firstBreaking firstLineField flowLineField readFlows setOf readLines readText flowLines textOf writeFault writeAnswer writeInto conflictWork share overOthers boundWith basicBound valueAt deadlines lowered roundTo roundsIn reached tightBound admits verdictOf boundsFault boundsOf ready nextCount insert ordered place placedWith channelsTo radioChannel sendOf sendsFrom countWith deliveredWith deliveriesOf droppedWith nextWith badState stepFault stepWith runWith stateBytes stateOf sendLines slotLines slotFault slotState slotBuffer boundLines runLines planOf planText verdictOfReading boundsOfReading slotAnswer boundsRows tableFault tableAnswer tableAfter verdictForC boundsForC slotForC allBoundsForC sizeOfReading superframeOfReading superframeAfter sizeForC superframeForC writeTableForC readTableForC channelForC multipleFrom lcm hyperTo rowsFrom rowsTo flat sizeFault superframeFault sizeAnswer superframeAnswer superframeInto rowLines rowsIn writeTableAnswer writeTableInto rowFormed rowOf above linesFault readTableFault readTableAnswer readTableInto superframeText frameRow tableRow linesRow rowsRow verdictRow boundsAnswerRow sumTo anyTo allTo used anyOf meet listTo filterTo ones onesIn
+unfolding every points point allHold holds same? sameSigned faultIs writtenRow slotRow offsetRows deliveryRows reportHolds sendRowsTo flowsOf rows sameRows bytes bytesOf same lines ended fields allDigits valueFrom isNumber allNumbers valuesOf wellFormed numbersOf decimalIn decimal tabbed decimals lineOf repeatAt flowFault flowsFault recordFault flowOf withFlow firstLineFault flowLineFault firstBreaking firstLineField flowLineField readFlows setOf readLines readText flowLines textOf writeFault writeAnswer writeInto conflictWork share overOthers boundWith basicBound valueAt deadlines lowered roundTo roundsIn reached tightBound admits verdictOf boundsFault boundsOf ready nextCount insert ordered place placedWith channelsTo radioChannel sendOf sendsFrom countWith deliveredWith deliveriesOf droppedWith nextWith badState stepFault stepWith runWith stateBytes stateOf sendLines slotLinesWith slotFaultWith slotStateWith slotBufferWith boundLines runLinesWith planOf printText verdictOfReading boundsOfReading slotAnswerWith boundsRows tableFault tableAnswer tableAfter verdictForC boundsForC slotForCWith allBoundsForC sizeOfReading superframeOfReading superframeAfter sizeForC superframeForC writeTableForC readTableForC channelForC multipleFrom lcm hyperTo rowsFrom rowsToWith flat sizeFault superframeFault sizeAnswer superframeAnswer superframeInto rowLines rowsIn writeTableAnswer writeTableInto rowFormed rowOf above linesFault readTableFault readTableAnswer readTableInto superframeText frameRow tableRow linesRow rowsRow verdictRow boundsAnswerRow sumTo anyTo allTo used anyOf meet listTo filterTo ones onesIn
 every-point = tt

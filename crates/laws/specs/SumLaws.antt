@@ -122,6 +122,12 @@ any-in p (suc n) i h e =
       | no k ↦ rw (any-in p n i (omega arith) e)
     ]
 
+-- the same tests, the same answer
+pub any-ext : (p q : ℕ → Bool) (n : ℕ) → ((j : ℕ) → j < n → p j ≡ q j) → anyTo p n ≡ anyTo q n
+unfolding anyTo
+any-ext p q zero h = refl
+any-ext p q (suc n) h = ap₂ (λ (a b : Bool). a || b) (any-ext p q n (λ j l. h j (omega arith))) (h n (le-refl (suc n)))
+
 -- where none passes, each one fails
 pub any-none : (p : ℕ → Bool) (n : ℕ) → anyTo p n ≡ false → (i : ℕ) → i < n → p i ≡ false
 any-none p n h i l = go (p i) refl

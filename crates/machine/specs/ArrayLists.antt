@@ -85,12 +85,6 @@ any-take p l zero h = refl
 any-take p l (suc n) h =
     rw (take-suc l n 0 h) (any-append p (take n l) (getD l n 0 ∷ []) ∙ rw (any-take p l n (omega arith), or-false))
 
--- the same tests, the same answer
-pub any-ext : (p q : ℕ → Bool) (n : ℕ) → ((j : ℕ) → j < n → p j ≡ q j) → anyTo p n ≡ anyTo q n
-unfolding anyTo
-any-ext p q zero h = refl
-any-ext p q (suc n) h = ap₂ (λ (a b : Bool). a || b) (any-ext p q n (λ j l. h j (omega arith))) (h n (le-refl (suc n)))
-
 -- the listed values
 pub length-listTo : (f : ℕ → ℕ) (n : ℕ) → length (listTo f n) ≡ n
 unfolding listTo

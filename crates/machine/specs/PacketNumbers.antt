@@ -9,10 +9,11 @@ use native.Mathlib.Decide.{decLe}
 use native.Mathlib.Omega.{arith}
 use borrow.Author.Tests.{eqb-true, eqb-false, eq-eqb, ne-eqb, le-leb, leb-true, ltb-true}
 use lib.Dec.{leb, ltb, eqb}
-use lib.ListN.{getD, take, length-take, length-map, List·getD-eq-default}
+use lib.ListN.{getD, take, replicate, length-take, length-map, List·getD-eq-default}
 use Rattle.model.specs.declared.kinds.Flow.{Flow}
 use Rattle.model.specs.declared.kinds.FlowSet.{FlowSet}
 use Rattle.model.specs.declared.kinds.State.{State}
+use Rattle.model.specs.declared.kinds.{Order.{Order}, Order.the-variants.{Deadline, Number}}
 use Rattle.model.specs.Limits.{lastSlot, mostFlows}
 use Rattle.model.specs.Releases.{release-first}
 use Rattle.model.specs.Refusals.{good}
@@ -20,10 +21,11 @@ use Rattle.document.specs.Reader.{recordFault}
 use Rattle.model.specs.Sums.{bit}
 use Rattle.model.specs.Sets.{noFlow, flowAt, exact, used, work}
 use Rattle.document.specs.Delay.{workAt}
-use Rattle.document.specs.Machine.{released, releaseAt, deadlineAt, had, ready, nextCount, countAt, hadAt, readyAt, dueAt, ahead}
+use Rattle.document.specs.Machine.{released, releaseAt, deadlineAt, had, ready, nextCount, countAt, hadAt, readyAt, dueAt, orderOf}
 use Rattle.laws.specs.SumLaws.{and-l, and-r}
 use Rattle.laws.specs.Accepted.{GoodFlow, accepted}
 use Rattle.laws.specs.Used.{used-flow, used-count}
+use Rattle.machine.specs.ArrayLists.{getD-zeros}
 use Rattle.machine.specs.LentArrays.{Packets}
 
 -- the absolute deadline of the latest packet, from the start, the period, the deadline and the slot
@@ -118,6 +120,11 @@ pub record PacketsHold (s : FlowSet) (st : State) (p : Packets) (deadline : List
 abbrev pub aheadBy : List ℕ → ℕ → ℕ → Bool
 aheadBy key k l = ltb (getD key k 0) (getD key l 0) || (eqb (getD key k 0) (getD key l 0) && ltb k l)
 
+-- the keys of each order of priority: the absolute deadlines, or the same key for all, where the flow number alone decides
+abbrev pub keysBy : Order → List ℕ → List ℕ
+keysBy Deadline due = due
+keysBy Number due = replicate mostFlows 0
+
 -- rule 2 by arrays
 abbrev pub readyBy : Packets → ℕ → ℕ → Bool
 readyBy p t k = readyIn (getD (p .start) k 0) (getD (p .due) k 0) (getD (p .sent) k 0) (getD (p .work) k 0) t
@@ -135,11 +142,14 @@ ready-work p t k e =
     let short : Bool = ltb (getD (p .sent) k 0) (getD (p .work) k 0) in
     ltb-true _ _ (and-r (leb (getD (p .start) k 0) t && ltb t (getD (p .due) k 0)) short e)
 
-pub ahead-by : (s : FlowSet) (st : State) (due : List ℕ) → ((k : ℕ) → getD due k 0 ≡ dueAt s st k) → aheadBy due ≡ ahead s st
-ahead-by s st due h = ap by (fun-ext h)
+-- by its keys an order is the machine's
+pub order-by : (by : Order) (s : FlowSet) (st : State) (due : List ℕ) → ((k : ℕ) → getD due k 0 ≡ dueAt s st k)
+    → aheadBy (keysBy by due) ≡ orderOf by s st
+order-by Deadline s st due h = ap keyed (fun-ext h)
   where
-    by : (ℕ → ℕ) → ℕ → ℕ → Bool
-    by f k l = ltb (f k) (f l) || (eqb (f k) (f l) && ltb k l)
+    keyed : (ℕ → ℕ) → ℕ → ℕ → Bool
+    keyed f k l = ltb (f k) (f l) || (eqb (f k) (f l) && ltb k l)
+order-by Number s st due h = fun-ext (λ k. fun-ext (λ l. rw (getD-zeros mostFlows k, getD-zeros mostFlows l)))
 
 pub ready-by : (s : FlowSet) (st : State) (p : Packets) (deadline : List ℕ) → PacketsHold s st p deadline → readyBy p (st .slot .0) ≡ readyAt s st
 ready-by s st p deadline h =

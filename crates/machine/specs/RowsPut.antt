@@ -10,15 +10,16 @@ use native.Mathlib.Omega.{arith}
 use lib.ListN.{length, getD, take, drop, set, length-append}
 use lib.Seq.{sets, sets-eq, length-take-le, lt-length-set, getD-take, take-suc}
 use Rattle.model.specs.declared.kinds.FlowSet.{FlowSet}
+use Rattle.model.specs.declared.kinds.Order.{Order}
 use Rattle.model.specs.declared.kinds.State.{State}
 use Rattle.model.specs.declared.answers.Fault.{Fault}
 use Rattle.model.specs.declared.answers.Ran.{Ran}
 use Rattle.model.specs.Limits.{mostChannels, mostFlows}
 use Rattle.model.specs.Refusals.{good}
 use Rattle.model.specs.Sets.{memb, used}
-use Rattle.document.specs.Machine.{ahead, hadAt, placedAt, runOf}
+use Rattle.document.specs.Machine.{Priority, hadAt, orderOf, placedWith, runWith}
 use Rattle.document.specs.Reader.{recordFault}
-use Rattle.document.specs.Superframe.{atStart, flat, rowsAt, rowsFrom, rowsTo}
+use Rattle.document.specs.Superframe.{atStart, flat, rowsFrom, rowsWith, rowsToWith}
 use Rattle.laws.specs.FlatRows.{flat-append}
 use Rattle.laws.specs.Members.{memb-at, memb-head, memb-tail}
 use Rattle.laws.specs.Used.{used-count}
@@ -120,9 +121,9 @@ abbrev pub RowsFitAt : ℕ → List ℕ → List ℕ → ℕ → ℕ → ℕ →
 RowsFitAt t counts chosen rows from room =
     (0 < rows → t ≤ 65535) × (rows ≤ mostChannels) × PerPlaced chosen × (from + 4 * rows ≤ room) × Counted counts chosen rows
 
-module _ (s : FlowSet) (st : State) (counts chosen : List ℕ) (placed : ℕ) (p : PlacedIn s st counts chosen placed) where
-  placed-rows : rowsAt (used s) st ≡ rowsBy (st .slot .0) counts 0 (take placed chosen)
-  placed-rows = rows-by (used s) st counts 0 (placedAt (used s) st) (p .one-more) ∙ ap (rowsBy (st .slot .0) counts 0) (sym (p .list))
+module _ (by : Order) (s : FlowSet) (st : State) (counts chosen : List ℕ) (placed : ℕ) (p : PlacedIn by s st counts chosen placed) where
+  placed-rows : rowsWith (orderOf by) (used s) st ≡ rowsBy (st .slot .0) counts 0 (take placed chosen)
+  placed-rows = rows-by (used s) st counts 0 (placedWith (orderOf by) (used s) st) (p .one-more) ∙ ap (rowsBy (st .slot .0) counts 0) (sym (p .list))
 
   placed-length : length (take placed chosen) ≡ placed
   placed-length = length-take-le placed chosen (omega (arith, p .few, p .long))
@@ -130,9 +131,9 @@ module _ (s : FlowSet) (st : State) (counts chosen : List ℕ) (placed : ℕ) (p
   placed-counted : good (recordFault (used s) .refusal) ≡ true → Counted counts chosen placed
   placed-counted g i h =
       let k : ℕ = getD chosen i 0 in
-      let m : memb k (placedAt (used s) st) ≡ true =
+      let m : memb k (placedWith (orderOf by) (used s) st) ≡ true =
       ap₂ (λ (x : ℕ) (l : List ℕ). memb x l) (sym (getD-take placed chosen i 0 h)) (sym (p .list)) ∙ memb-at (take placed chosen) i (rw placed-length h) in
-      let below = placed-ready ahead (used s) st k m .0 in
+      let below = placed-ready (orderOf by) (used s) st k m .0 in
       (omega (arith, below, used-count s, accepted-count s g), omega (arith, p .one-more k m))
 
   pub rows-if-put : good (recordFault (used s) .refusal) ≡ true → (put : Bool) (t rows from room : ℕ) → rows ≡ cond put placed 0 → from ≤ room
@@ -142,58 +143,66 @@ module _ (s : FlowSet) (st : State) (counts chosen : List ℕ) (placed : ℕ) (p
 
 -- ---- all slots
 
-rows-next : (s : FlowSet) (n : ℕ) → flat (rowsTo s (n + 1)) ≡ flat (rowsTo s n) ++ flat (rowsAt s (runOf s n .last))
-unfolding rowsTo
-rows-next s n = rw add-one (flat-append (rowsTo s n) (rowsAt s (runOf s n .last)))
+rows-next : (first : Priority) (s : FlowSet) (n : ℕ)
+    → flat (rowsToWith first s (n + 1)) ≡ flat (rowsToWith first s n) ++ flat (rowsWith first s (runWith first s n .last))
+unfolding rowsToWith
+rows-next first s n = rw add-one (flat-append (rowsToWith first s n) (rowsWith first s (runWith first s n .last)))
 
 -- fewer slots have no more rows
-rows-le : (s : FlowSet) (n m : ℕ) → n ≤ m → length (flat (rowsTo s n)) ≤ length (flat (rowsTo s m))
-unfolding rowsTo
-rows-le s n zero h = let e : n ≡ 0 = omega arith in rw e (le-refl _)
-rows-le s n (suc m) h = elim (decLe n m) [
+rows-le : (first : Priority) (s : FlowSet) (n m : ℕ) → n ≤ m → length (flat (rowsToWith first s n)) ≤ length (flat (rowsToWith first s m))
+unfolding rowsToWith
+rows-le first s n zero h = let e : n ≡ 0 = omega arith in rw e (le-refl _)
+rows-le first s n (suc m) h = elim (decLe n m) [
   | yes d ↦
-      let slot : List (List ℕ) = rowsAt s (runOf s m .last) in
-      rw (flat-append (rowsTo s m) slot, length-append (flat (rowsTo s m)) (flat slot)) (omega (arith, rows-le s n m d))
+      let slot : List (List ℕ) = rowsWith first s (runWith first s m .last) in
+      rw (flat-append (rowsToWith first s m) slot, length-append (flat (rowsToWith first s m)) (flat slot)) (omega (arith, rows-le first s n m d))
   | no d ↦ let e : n ≡ suc m = omega arith in rw e (le-refl _)
 ]
 
--- the rows of the slots before t stand at a table's start, and this is the place behind them
-pub record RowsSoFar (s : FlowSet) (t at : ℕ) (old table : List ℕ) : Type 0 where
-  pub at-is : at ≡ length (flat (rowsTo (used s) t))
-  pub table-is : table ≡ sets old 0 (flat (rowsTo (used s) t))
+-- the numbers of the rows of a set's first n slots
+abbrev pub rowNumbers : Order → FlowSet → ℕ → List ℕ
+rowNumbers by s n = flat (rowsToWith (orderOf by) (used s) n)
 
-pub no-rows : (s : FlowSet) (table : List ℕ) → RowsSoFar s 0 0 table table
-unfolding rowsTo flat
-no-rows s table = record { at-is = refl; table-is = refl }
+-- the rows of the slots before t stand at a table's start, and this is the place behind them
+pub record RowsSoFar (by : Order) (s : FlowSet) (t at : ℕ) (old table : List ℕ) : Type 0 where
+  pub at-is : at ≡ length (rowNumbers by s t)
+  pub table-is : table ≡ sets old 0 (rowNumbers by s t)
+
+pub no-rows : (by : Order) (s : FlowSet) (table : List ℕ) → RowsSoFar by s 0 0 table table
+unfolding rowsToWith flat
+no-rows by s table = record { at-is = refl; table-is = refl }
 
 -- one slot more of a run
-module _ (s : FlowSet) (fault : Fault) (t d x : ℕ) (sent : List ℕ) (run : RanTo s fault (stateAt t sent) d x t) (counts chosen : List ℕ) (placed : ℕ)
-    (p : PlacedIn s (stateAt t sent) counts chosen placed) (at : ℕ) (old table : List ℕ) (r : RowsSoFar s t at old table) where
+module _ (by : Order) (s : FlowSet) (fault : Fault) (t d x : ℕ) (sent : List ℕ) (run : RanTo by s fault (stateAt t sent) d x t)
+    (counts chosen : List ℕ) (placed : ℕ) (p : PlacedIn by s (stateAt t sent) counts chosen placed)
+    (at : ℕ) (old table : List ℕ) (r : RowsSoFar by s t at old table) where
   -- the numbers of the slot's rows
   abbrev new : List ℕ
   new = flat (rowsBy t counts 0 (take placed chosen))
 
-  more-rows : flat (rowsTo (used s) (t + 1)) ≡ flat (rowsTo (used s) t) ++ new
+  more-rows : rowNumbers by s (t + 1) ≡ rowNumbers by s t ++ new
   more-rows =
-      let e : rowsAt (used s) (runOf (used s) t .last) ≡ rowsAt (used s) (stateAt t sent) = ap (λ (a : Ran). rowsAt (used s) (a .last)) (run .run-is) in
-      rows-next (used s) t ∙ ap (λ (l : List (List ℕ)). flat (rowsTo (used s) t) ++ flat l) (e ∙ placed-rows s (stateAt t sent) counts chosen placed p)
+      let rows : State → List (List ℕ) = rowsWith (orderOf by) (used s) in
+      let e : rows (runWith (orderOf by) (used s) t .last) ≡ rows (stateAt t sent) = ap (λ (a : Ran). rows (a .last)) (run .run-is) in
+      rows-next (orderOf by) (used s) t
+      ∙ ap (λ (l : List (List ℕ)). rowNumbers by s t ++ flat l) (e ∙ placed-rows by s (stateAt t sent) counts chosen placed p)
 
   -- the place behind the slot's rows
-  rows-place : at + 4 * placed ≡ length (flat (rowsTo (used s) (t + 1)))
+  rows-place : at + 4 * placed ≡ length (rowNumbers by s (t + 1))
   rows-place =
-      let l = placed-length s (stateAt t sent) counts chosen placed p in
+      let l = placed-length by s (stateAt t sent) counts chosen placed p in
       let n = rows-length t counts 0 (take placed chosen) in
-      rw (more-rows, length-append (flat (rowsTo (used s) t)) new) (omega (arith, r .at-is))
+      rw (more-rows, length-append (rowNumbers by s t) new) (omega (arith, r .at-is))
 
   -- they fit where the rows of all slots do
-  pub rows-fit : (slots room : ℕ) → t < slots → length (flat (rowsTo (used s) slots)) ≤ room → at + 4 * placed ≤ room
-  rows-fit slots room h f = omega (arith, rows-place, rows-le (used s) (t + 1) slots (omega arith))
+  pub rows-fit : (slots room : ℕ) → t < slots → length (rowNumbers by s slots) ≤ room → at + 4 * placed ≤ room
+  rows-fit slots room h f = omega (arith, rows-place, rows-le (orderOf by) (used s) (t + 1) slots (omega arith))
 
   -- and are put behind those before them
   pub rows-more : (rows at′ : ℕ) (table′ : List ℕ) → rows ≡ placed → at′ ≡ at + 4 * rows
-      → table′ ≡ sets table at (flat (rowsBy t counts 0 (take rows chosen))) → RowsSoFar s (t + 1) at′ old table′
+      → table′ ≡ sets table at (flat (rowsBy t counts 0 (take rows chosen))) → RowsSoFar by s (t + 1) at′ old table′
   rows-more rows at′ table′ q e f =
-      let l : List ℕ = flat (rowsTo (used s) t) in
+      let l : List ℕ = rowNumbers by s t in
       let k : at ≡ 0 + length l = omega (arith, r .at-is) in
       record {
         at-is = e ∙ ap (λ (n : ℕ). at + 4 * n) q ∙ rows-place;
@@ -202,17 +211,17 @@ module _ (s : FlowSet) (fault : Fault) (t d x : ℕ) (sent : List ℕ) (run : Ra
       }
 
 -- some set's run is before its first slot, and the rows of this number of slots fit into a table and its 16 bits
-pub record RowsFit (slots count m : ℕ) (numbers : Numbers) (links : Links) (run : RunArrays) (room : ℕ) : Type 0 where
+pub record RowsFit (by : Order) (slots count m : ℕ) (numbers : Numbers) (links : Links) (run : RunArrays) (room : ℕ) : Type 0 where
   pub set : FlowSet
   pub fault : Fault
-  pub run-so-far : RunSoFar set fault count m 0 (countsOf 0 0) numbers links run
+  pub run-so-far : RunSoFar by set fault count m 0 (countsOf 0 0) numbers links run
   pub small : slots ≤ 65536
-  pub fits : length (flat (rowsTo (used set) slots)) ≤ room
+  pub fits : length (rowNumbers by set slots) ≤ room
 
 -- for any set whose numbers these are, its rows of this number of slots stand at the table's start
-abbrev pub RowsOfSlots : ℕ → ℕ → ℕ → Numbers → Links → RunArrays → List ℕ → List ℕ → Type 0
-RowsOfSlots slots count m numbers links run old table =
-    (s : FlowSet) (fault : Fault) → RunSoFar s fault count m 0 (countsOf 0 0) numbers links run → table ≡ sets old 0 (flat (rowsTo (used s) slots))
+abbrev pub RowsOfSlots : Order → ℕ → ℕ → ℕ → Numbers → Links → RunArrays → List ℕ → List ℕ → Type 0
+RowsOfSlots by slots count m numbers links run old table =
+    (s : FlowSet) (fault : Fault) → RunSoFar by s fault count m 0 (countsOf 0 0) numbers links run → table ≡ sets old 0 (rowNumbers by s slots)
 
 -- as many rows as are placed, if rows are put
 pub all-put : (put : Bool) (rows placed : ℕ) → rows ≡ cond put placed 0 → put ≡ true → rows ≡ placed

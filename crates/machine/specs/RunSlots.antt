@@ -12,20 +12,21 @@ use lib.Dec.{leb, ltb}
 use lib.ListN.{length, getD, take}
 use Rattle.model.specs.declared.kinds.FlowSet.{FlowSet}
 use Rattle.model.specs.declared.kinds.State.{State}
+use Rattle.model.specs.declared.kinds.Order.{Order}
 use Rattle.model.specs.declared.answers.Fault.{Fault}
 use Rattle.model.specs.declared.answers.Stepped.{Stepped}
 use Rattle.model.specs.Limits.{lastSlot, mostChannels, mostFlows}
 use Rattle.model.specs.Sets.{memb, used}
 use Rattle.model.specs.Sums.{bit}
 use Rattle.document.specs.Delay.{ways}
-use Rattle.document.specs.Machine.{ahead, hadAt, ordered, place, placedAt}
+use Rattle.document.specs.Machine.{hadAt, orderOf, ordered, place, placedWith}
 use Rattle.laws.specs.Accepted.{accepted, ones-pos}
 use Rattle.laws.specs.Members.{memb-empty}
 use Rattle.laws.specs.SumLaws.{and-l, and-r}
 use Rattle.laws.specs.Used.{used-count}
 use Rattle.machine.specs.ArrayLists.{Through}
 use Rattle.machine.specs.LentArrays.{Numbers, Links, Packets, packetsOf, RunArrays, runArraysOf, releasesIn, packetsIn}
-use Rattle.machine.specs.PacketNumbers.{aheadBy, readyBy, accepted-count}
+use Rattle.machine.specs.PacketNumbers.{aheadBy, keysBy, readyBy, accepted-count}
 use Rattle.machine.specs.ReadyOrder.{keep, keep-ordered, waiting-each}
 use Rattle.machine.specs.PlacedChoice.{Choice, choiceBy, clashOf, linkBy, orderedBy, place-some, placed-by, placed-ready}
 use Rattle.machine.specs.LinkColumns.{Routes, linkIn}
@@ -34,25 +35,25 @@ use Rattle.machine.specs.SlotByColumns.{AfterNumbers, AfterOrder, placed
 use Rattle.machine.specs.NextReleases.{NextReleases, NoneBefore, release-started, Released, packets-after-releases, releases-next}
 
 -- every ready packet is among the waiting, which are in their order
-abbrev pub WaitingInOrder : ℕ → ℕ → Packets → List ℕ → ℕ → Type 0
-WaitingInOrder count t p order waiting =
-    (old : ℕ → Bool) × (take waiting order ≡ ordered (aheadBy (p .due)) old count) × ((k : ℕ) → k < count → readyBy p t k ≡ true → old k ≡ true)
+abbrev pub WaitingInOrder : Order → ℕ → ℕ → Packets → List ℕ → ℕ → Type 0
+WaitingInOrder by count t p order waiting =
+    (old : ℕ → Bool) × (take waiting order ≡ ordered (aheadBy (keysBy by (p .due))) old count) × ((k : ℕ) → k < count → readyBy p t k ≡ true → old k ≡ true)
 
 -- just before slot t: no release comes before the soonest, and until then the packets wait in their order
-pub record BeforeReleases (s : FlowSet) (t : ℕ) (numbers : Numbers) (run : RunArrays) : Type 0 where
+pub record BeforeReleases (by : Order) (s : FlowSet) (t : ℕ) (numbers : Numbers) (run : RunArrays) : Type 0 where
   pub turns : NextReleases s t numbers (run .due) (run .next)
   pub soon : NoneBefore (s .count) (run .soonest) (run .next)
-  pub in-order : t < run .soonest → WaitingInOrder (s .count) t (packetsIn numbers run) (run .order) (run .waiting)
+  pub in-order : t < run .soonest → WaitingInOrder by (s .count) t (packetsIn numbers run) (run .order) (run .waiting)
   pub long-due : length (run .due) ≡ mostFlows
   pub long-next : length (run .next) ≡ mostFlows
   pub long-order : length (run .order) ≡ mostFlows
   pub few : run .waiting ≤ mostFlows
 
 -- slot t with its releases made
-pub record AfterReleases (count t : ℕ) (numbers : Numbers) (before after : RunArrays) : Type 0 where
+pub record AfterReleases (by : Order) (count t : ℕ) (numbers : Numbers) (before after : RunArrays) : Type 0 where
   pub released : Released count t (numbers .period) (numbers .deadline) (releasesIn before) (releasesIn after)
   pub soon : NoneBefore count (after .soonest) (after .next)
-  pub in-order : WaitingInOrder count t (packetsIn numbers after) (after .order) (after .waiting)
+  pub in-order : WaitingInOrder by count t (packetsIn numbers after) (after .order) (after .waiting)
   pub long-order : length (after .order) ≡ mostFlows
   pub few : after .waiting ≤ mostFlows
 
@@ -60,9 +61,9 @@ abbrev pub stateAt : ℕ → List ℕ → State
 stateAt t sent = record { slot = record { 0 = t }; sent = sent }
 
 -- the flows that a state's slot places are the first of an array, and each has had one transmission more after it
-pub record PlacedIn (s : FlowSet) (st : State) (counts chosen : List ℕ) (placed : ℕ) : Type 0 where
-  pub list : take placed chosen ≡ placedAt (used s) st
-  pub one-more : (k : ℕ) → memb k (placedAt (used s) st) ≡ true → getD counts k 0 ≡ hadAt (used s) st k + 1
+pub record PlacedIn (by : Order) (s : FlowSet) (st : State) (counts chosen : List ℕ) (placed : ℕ) : Type 0 where
+  pub list : take placed chosen ≡ placedWith (orderOf by) (used s) st
+  pub one-more : (k : ℕ) → memb k (placedWith (orderOf by) (used s) st) ≡ true → getD counts k 0 ≡ hadAt (used s) st k + 1
   pub few : placed ≤ mostChannels
   pub long : length chosen ≡ mostChannels
 
@@ -80,23 +81,23 @@ pub record AfterSlot (count t m : ℕ) (p : Packets) (links : Links) (order : Li
 some-way : (s : FlowSet) (numbers : Numbers) → AfterNumbers s numbers → 0 < ways (used s)
 some-way s numbers n = ones-pos (used s .map .0) (accepted (used s) (n .good-set) .some-channel)
 
-module _ (s : FlowSet) (t : ℕ) (numbers : Numbers) (n : AfterNumbers s numbers) (before : RunArrays) (a : BeforeReleases s t numbers before)
-    (fault : Fault) (delivered dropped : ℕ) (run : RanTo s fault (stateAt t (before .sent)) delivered dropped t) (l : t < lastSlot)
-    (after : RunArrays) (w : AfterReleases (s .count) t numbers before after) where
+module _ (by : Order) (s : FlowSet) (t : ℕ) (numbers : Numbers) (n : AfterNumbers s numbers) (before : RunArrays) (a : BeforeReleases by s t numbers before)
+    (fault : Fault) (delivered dropped : ℕ) (run : RanTo by s fault (stateAt t (before .sent)) delivered dropped t) (l : t < lastSlot)
+    (after : RunArrays) (w : AfterReleases by (s .count) t numbers before after) where
   -- the packets of the slot
   abbrev p : Packets
   p = packetsIn numbers after
 
   -- all is there that the slot's answer is made from
-  pub order-after-releases : AfterOrder s (stateAt t (before .sent)) p (numbers .deadline) (after .order) (after .waiting)
+  pub order-after-releases : AfterOrder by s (stateAt t (before .sent)) p (numbers .deadline) (after .order) (after .waiting)
   order-after-releases =
       record {
         good-set = n .good-set;
         good-state = run .good-state;
         before-last = l;
         packets = packets-after-releases s (stateAt t (before .sent)) numbers _ _ _ n (run .good-state) (a .turns) (w .released);
-        in-order = ap (keep new) (w .in-order .1) ∙ keep-ordered (after .due) (w .in-order .0) new (s .count) (w .in-order .2)
-            ∙ ap (ordered (aheadBy (after .due)) new) (sym (used-count s));
+        in-order = ap (keep new) (w .in-order .1) ∙ keep-ordered (keysBy by (after .due)) (w .in-order .0) new (s .count) (w .in-order .2)
+            ∙ ap (ordered (aheadBy (keysBy by (after .due))) new) (sym (used-count s));
         low = λ i h. omega (arith, each i h .0, accepted-count s (n .good-set));
         few = w .few;
         long-order = w .long-order;
@@ -109,7 +110,7 @@ module _ (s : FlowSet) (t : ℕ) (numbers : Numbers) (n : AfterNumbers s numbers
 
       each : (i : ℕ) → i < after .waiting → (getD (after .order) i 0 < s .count) × (w .in-order .0 (getD (after .order) i 0) ≡ true)
       each =
-          waiting-each (aheadBy (after .due)) (w .in-order .0) (s .count) (after .order) (after .waiting)
+          waiting-each (aheadBy (keysBy by (after .due))) (w .in-order .0) (s .count) (after .order) (after .waiting)
           (omega (arith, w .few, w .long-order)) (w .in-order .1)
 
   next-releases : NextReleases s (t + 1) numbers (after .due) (after .next)
@@ -133,8 +134,8 @@ module _ (s : FlowSet) (t : ℕ) (numbers : Numbers) (n : AfterNumbers s numbers
 
   -- so they wait in their order on
   pub before-next-releases : (counts : List ℕ) (left : ℕ) → ((k : ℕ) → k < s .count → getD (after .sent) k 0 ≤ getD counts k 0) → left ≤ mostFlows
-      → WaitingInOrder (s .count) t p (after .order) left
-      → BeforeReleases s (t + 1) numbers (runArraysOf (after .due) (after .next) counts (after .order) (after .soonest) left)
+      → WaitingInOrder by (s .count) t p (after .order) left
+      → BeforeReleases by s (t + 1) numbers (runArraysOf (after .due) (after .next) counts (after .order) (after .soonest) left)
   before-next-releases counts left c f m =
       record {
         turns = next-releases;
@@ -147,24 +148,24 @@ module _ (s : FlowSet) (t : ℕ) (numbers : Numbers) (n : AfterNumbers s numbers
       }
 
   -- a slot in which no packet waits
-  none-ordered : after .waiting ≡ 0 → orderedBy (used s) t p ≡ []
+  none-ordered : after .waiting ≡ 0 → orderedBy by (used s) t p ≡ []
   unfolding keep
   none-ordered e = sym (order-after-releases .in-order) ∙ ap (λ (z : ℕ). keep (readyBy p t) (take z (after .order))) e
 
-  none-placed : after .waiting ≡ 0 → placedAt (used s) (stateAt t (before .sent)) ≡ []
+  none-placed : after .waiting ≡ 0 → placedWith (orderOf by) (used s) (stateAt t (before .sent)) ≡ []
   unfolding place
   none-placed e =
-      sym (placed-by (used s) (stateAt t (before .sent)) p (numbers .deadline) (order-after-releases .packets))
+      sym (placed-by by (used s) (stateAt t (before .sent)) p (numbers .deadline) (order-after-releases .packets))
       ∙ ap (place (ways (used s)) (clashOf (linkBy (used s) (after .sent))) []) (none-ordered e)
 
   pub run-idle : after .waiting ≡ 0 → (chosen : List ℕ) → length chosen ≡ mostChannels
-      → RanTo s fault (stateAt (t + 1) (after .sent)) delivered dropped (t + 1) × BeforeReleases s (t + 1) numbers after
-      × PlacedIn s (stateAt t (before .sent)) (after .sent) chosen 0
+      → RanTo by s fault (stateAt (t + 1) (after .sent)) delivered dropped (t + 1) × BeforeReleases by s (t + 1) numbers after
+      × PlacedIn by s (stateAt t (before .sent)) (after .sent) chosen 0
   run-idle e chosen long =
       let r = order-after-releases in
       let none = none-placed e in
-      let idle = idle-slot s (stateAt t (before .sent)) p (numbers .deadline) (after .order) (after .waiting) r (none-ordered e) in (
-        ran-idle s fault (stateAt t (before .sent)) delivered dropped t (n .good-set) l run (after .sent) idle,
+      let idle = idle-slot by s (stateAt t (before .sent)) p (numbers .deadline) (after .order) (after .waiting) r (none-ordered e) in (
+        ran-idle by s fault (stateAt t (before .sent)) delivered dropped t (n .good-set) l run (after .sent) idle,
         before-next-releases (after .sent) (after .waiting) (λ k h. le-refl _) (w .few) (w .in-order),
         record { list = sym none; one-more = λ k h. absurd (memb-empty k (rw none at h)); few = zero-le; long = long },
       )
@@ -172,11 +173,11 @@ module _ (s : FlowSet) (t : ℕ) (numbers : Numbers) (n : AfterNumbers s numbers
   -- and one in which some wait
   module _ (links : Links) (q : Routes s links) (counts : List ℕ) (e x left : ℕ) (chosen : List ℕ) (placed : ℕ)
       (c : AfterSlot (s .count) t (ways (used s)) p links (after .order) (after .waiting) counts e x left chosen placed) where
-    placed-by-slot : Choice (placedAt (used s) (stateAt t (before .sent))) chosen (c .marked) placed
+    placed-by-slot : Choice (placedWith (orderOf by) (used s) (stateAt t (before .sent))) chosen (c .marked) placed
     placed-by-slot =
-        rw (placed-is s (stateAt t (before .sent)) p (numbers .deadline) (after .order) (after .waiting) order-after-releases links q) at (c .choice)
+        rw (placed-is by s (stateAt t (before .sent)) p (numbers .deadline) (after .order) (after .waiting) order-after-releases links q) at (c .choice)
 
-    waiting-left : (left ≡ after .waiting) ⊎ ((left ≡ 0) × (placed ≡ 0)) → WaitingInOrder (s .count) t p (after .order) left
+    waiting-left : (left ≡ after .waiting) ⊎ ((left ≡ 0) × (placed ≡ 0)) → WaitingInOrder by (s .count) t p (after .order) left
     waiting-left (inl h) = rw h (w .in-order)
     waiting-left (inr h) =
         let r = order-after-releases in
@@ -184,24 +185,24 @@ module _ (s : FlowSet) (t : ℕ) (numbers : Numbers) (n : AfterNumbers s numbers
         let z : choiceBy (ways (used s)) t p (linkIn (after .sent) links) (after .order) (after .waiting) ≡ [] =
         sym (c .choice .list) ∙ ap (λ (y : ℕ). take y chosen) (h .1) in
         let none = sym (r .in-order) ∙ place-some (ways (used s)) _ _ (some-way s numbers n) z in
-        (new, ap (λ (y : ℕ). take y (after .order)) (h .0) ∙ sym none ∙ ap (ordered (aheadBy (after .due)) new) (used-count s), λ k b y. y)
+        (new, ap (λ (y : ℕ). take y (after .order)) (h .0) ∙ sym none ∙ ap (ordered (aheadBy (keysBy by (after .due))) new) (used-count s), λ k b y. y)
 
-    pub run-placed : RanTo s fault (stateAt (t + 1) counts) (delivered + e) (dropped + x) (t + 1)
-        × BeforeReleases s (t + 1) numbers (runArraysOf (after .due) (after .next) counts (after .order) (after .soonest) left)
-        × PlacedIn s (stateAt t (before .sent)) counts chosen placed
+    pub run-placed : RanTo by s fault (stateAt (t + 1) counts) (delivered + e) (dropped + x) (t + 1)
+        × BeforeReleases by s (t + 1) numbers (runArraysOf (after .due) (after .next) counts (after .order) (after .soonest) left)
+        × PlacedIn by s (stateAt t (before .sent)) counts chosen placed
     run-placed =
         let st : State = stateAt t (before .sent) in
         let r = order-after-releases in
         let y = placed-by-slot in
-        let b = slot-answer s st p (numbers .deadline) (after .order) (after .waiting) r ahead chosen (c .marked) placed y
+        let b = slot-answer by s st p (numbers .deadline) (after .order) (after .waiting) r chosen (c .marked) placed y
         _ e _ x _ counts refl (c .delivered-is) refl (c .dropped-is) refl (c .counted) in (
-          ran-next s fault st delivered dropped t (n .good-set) l run (stateAt (t + 1) counts) e x
+          ran-next by s fault st delivered dropped t (n .good-set) l run (stateAt (t + 1) counts) e x
               (ap (λ (z : Stepped). z .next) (sym b)) (ap (λ (z : Stepped). z .deliveries) (sym b)) (ap (λ (z : Stepped). z .drops) (sym b)),
           before-next-releases counts left (λ k h. omega (arith, c .counted .below k h)) (few-left (c .left-is)) (waiting-left (c .left-is)),
           record {
             list = y .list;
             one-more = λ k h.
-                c .counted .below k (rw (used-count s) at (placed-ready ahead (used s) st k h .0))
+                c .counted .below k (rw (used-count s) at (placed-ready (orderOf by) (used s) st k h .0))
                 ∙ ap₂ (λ (a b : ℕ). a + b) (r .packets .hads k) (y .marks k ∙ ap bit h);
             few = y .few;
             long = y .long-chosen;

@@ -14,6 +14,7 @@ use Rattle.model.specs.declared.kinds.ChannelMap.{ChannelMap}
 use Rattle.model.specs.declared.kinds.Flow.{Flow}
 use Rattle.model.specs.declared.kinds.FlowSet.{FlowSet}
 use Rattle.model.specs.declared.kinds.State.{State}
+use Rattle.model.specs.declared.kinds.Order.{Order}
 use Rattle.model.specs.Limits.{lastSlot, mostChannels, mostFlows}
 use Rattle.model.specs.declared.answers.Send.{Send}
 use Rattle.model.specs.declared.answers.Delivery.{Delivery}
@@ -24,19 +25,19 @@ use Rattle.document.specs.Reader.{recordFault}
 use Rattle.model.specs.Sums.{bit}
 use Rattle.model.specs.Sets.{freshState, flowAt, used, anyOf, memb, meet, filterTo, work}
 use Rattle.document.specs.Delay.{ways, workAt}
-use Rattle.document.specs.Machine.{releaseAt, deadlineAt, ready, countAt, hadAt, readyAt, dueAt, linkOf, tryOf, linkAt, radioChannel, sendOf, ordered, place, placedAt, deliveriesOf, filled, noSend, noDelivery, stepIf, badState, runOf, nextWith, Priority, ahead, deliveredWith, droppedWith, placedWith, sendsWith, stepIfWith}
+use Rattle.document.specs.Machine.{releaseAt, deadlineAt, ready, countAt, hadAt, readyAt, dueAt, linkOf, tryOf, linkAt, radioChannel, sendOf, ordered, orderOf, place, deliveriesOf, filled, noSend, noDelivery, badState, nextWith, Priority, deliveredWith, droppedWith, placedWith, sendsWith, stepIfWith, runWith}
 use Rattle.laws.specs.Accepted.{accepted}
 use Rattle.laws.specs.TestAnswers.{work-le-most}
 use Rattle.laws.specs.Used.{used-map, used-count, used-flow}
-use Rattle.laws.specs.SumLaws.{and-l, and-r}
-use Rattle.machine.specs.ArrayLists.{Through, through-all, bit-one, getD-zeros, any-ext, filter-none}
+use Rattle.laws.specs.SumLaws.{any-ext, and-l, and-r}
+use Rattle.machine.specs.ArrayLists.{Through, through-all, bit-one, getD-zeros, filter-none}
 use Rattle.model.specs.Releases.{release-back}
 use Rattle.machine.specs.LentArrays.{Numbers, Links, Packets, packetsOf}
-use Rattle.machine.specs.PacketNumbers.{dueIn, dueBy, hadBy, aheadBy, readyBy, PacketsHold, had-is, ready-work, ready-if, used-none, accepted-count}
+use Rattle.machine.specs.PacketNumbers.{dueIn, dueBy, hadBy, aheadBy, keysBy, readyBy, PacketsHold, had-is, ready-work, ready-if, used-none, accepted-count}
 use Rattle.machine.specs.ReadyOrder.{Each, each-at, each-wide, waiting-each, ordered-each, ordered-in, keep, keep-all, ReadyInOrder, FlowsTo}
 use Rattle.machine.specs.PlacedChoice.{Choice, choiceBy, linkBy, clashOf, orderedBy, placed-by, place-ext, placed-each, placed-ready, delivered-le}
 use Rattle.machine.specs.LinkColumns.{Routes, linkIn, LinksThere, PlacedLinks, link-is, link-in-route}
-use Rattle.machine.specs.States.{badBy, mostCount, GoodState, had-le, count-after-le, fresh-good, good-not-bad, next-good, next-slot, step-good, run-none, run-next}
+use Rattle.machine.specs.States.{badBy, mostCount, GoodState, had-le, count-after-le, fresh-good, good-not-bad, next-good, next-slot, step-with-good, run-none, run-with-next}
 use Rattle.promise.specs.Reports.{sends-length}
 use Rattle.machine.specs.SlotAnswers.{sendBy, sendsOf, sends-by, deliveredBy, deliveredTo, deliveriesBy, deliveryArray, length-deliveries, droppedBy, droppedTo, countBy, deliveries-by, delivered-by, dropped-by, after-by, next-by, MarkedDelayed}
 
@@ -104,19 +105,19 @@ answer-ext : (a b : State) → a ≡ b → {n m : ℕ} → n ≡ m → {l k : Li
 answer-ext a b p q r d e x y i = answerOf (p i) (q i) (r i) (d i) (e i) (x i) (y i)
 
 -- all that a slot's answer is made from
-pub record AfterOrder (s : FlowSet) (st : State) (p : Packets) (deadline order : List ℕ) (waiting : ℕ) : Type 0 where
+pub record AfterOrder (by : Order) (s : FlowSet) (st : State) (p : Packets) (deadline order : List ℕ) (waiting : ℕ) : Type 0 where
   pub good-set : good (recordFault (used s) .refusal) ≡ true
   pub good-state : GoodState (used s) st
   pub before-last : st .slot .0 < lastSlot
   pub packets : PacketsHold (used s) st p deadline
-  pub in-order : keep (readyBy p (st .slot .0)) (take waiting order) ≡ orderedBy (used s) (st .slot .0) p
+  pub in-order : keep (readyBy p (st .slot .0)) (take waiting order) ≡ orderedBy by (used s) (st .slot .0) p
   pub low : FlowsTo order waiting
   pub few : waiting ≤ mostFlows
   pub long-order : length order ≡ mostFlows
   pub long-sent : length (p .sent) ≡ mostFlows
   pub small : (k : ℕ) → getD deadline k 0 ≤ 65535
 
-module _ (s : FlowSet) (st : State) (p : Packets) (deadline order : List ℕ) (waiting : ℕ) (r : AfterOrder s st p deadline order waiting) where
+module _ (by : Order) (s : FlowSet) (st : State) (p : Packets) (deadline order : List ℕ) (waiting : ℕ) (r : AfterOrder by s st p deadline order waiting) where
   -- a count is at most C, which is at most 64
   work-at-small : (k : ℕ) → k < s .count → workAt (used s) k ≤ 64
   work-at-small k h = work-le-most (used s) (accepted (used s) (r .good-set)) k (rw (used-count s) h)
@@ -145,13 +146,14 @@ module _ (s : FlowSet) (st : State) (p : Packets) (deadline order : List ℕ) (w
     ready-short k h = link-in-route s links (r .good-set) w (p .sent) k (rw (r .packets .works k) at h)
 
     -- rule 4's choice by the links of the arrays
-    pub placed-is : choiceBy (ways (used s)) (st .slot .0) p (linkIn (p .sent) links) order waiting ≡ placedAt (used s) st
+    pub placed-is : choiceBy (ways (used s)) (st .slot .0) p (linkIn (p .sent) links) order waiting ≡ placedWith (orderOf by) (used s) st
     placed-is =
         ap (place (ways (used s)) (clashOf (linkIn (p .sent) links)) []) (r .in-order)
         ∙ place-ext Short (ways (used s)) (clashOf (linkIn (p .sent) links)) (clashOf (linkBy (used s) (p .sent)))
         (λ k l a b. ap₂ meet (link-is s links (r .good-set) w (p .sent) k a) (link-is s links (r .good-set) w (p .sent) l b)) [] _ tt
-        (each-wide Ready Short short (orderedBy (used s) (st .slot .0) p) (ordered-each (aheadBy (p .due)) (readyBy p (st .slot .0)) (used s .count)))
-        ∙ placed-by (used s) st p deadline (r .packets)
+        (each-wide Ready Short short (orderedBy by (used s) (st .slot .0) p)
+        (ordered-each (aheadBy (keysBy by (p .due))) (readyBy p (st .slot .0)) (used s .count)))
+        ∙ placed-by by (used s) st p deadline (r .packets)
       where
         Ready : ℕ → Type 0
         Ready k = (k < used s .count) × (readyBy p (st .slot .0) k ≡ true)
@@ -162,8 +164,12 @@ module _ (s : FlowSet) (st : State) (p : Packets) (deadline order : List ℕ) (w
         short : (k : ℕ) → Ready k → Short k
         short k e = rw (r .packets .works k) at (ready-work p (st .slot .0) k (e .1))
 
-  -- the placed packets in arrays, for any order of priority
-  module _ (first : Priority) (chosen marked : List ℕ) (n : ℕ) (c : Choice (placedWith first (used s) st) chosen marked n) where
+  -- the order of priority
+  abbrev first : Priority
+  first = orderOf by
+
+  -- the placed packets in arrays
+  module _ (chosen marked : List ℕ) (n : ℕ) (c : Choice (placedWith first (used s) st) chosen marked n) where
     module _ (links : Links) (w : Routes s links) where
       -- the placed are flows of the set, short of their C
       abbrev Short : ℕ → Type 0
@@ -331,20 +337,20 @@ pub record Idle (st : State) (sent : List ℕ) (a : Stepped) : Type 0 where
   pub none-delivered : a .deliveries ≡ 0
   pub none-dropped : a .drops ≡ 0
 
-pub idle-slot : (s : FlowSet) (st : State) (p : Packets) (deadline order : List ℕ) (waiting : ℕ) → AfterOrder s st p deadline order waiting
-    → orderedBy (used s) (st .slot .0) p ≡ [] → Idle st (p .sent) (stepIf (used s) st true)
+pub idle-slot : (by : Order) (s : FlowSet) (st : State) (p : Packets) (deadline order : List ℕ) (waiting : ℕ) → AfterOrder by s st p deadline order waiting
+    → orderedBy by (used s) (st .slot .0) p ≡ [] → Idle st (p .sent) (stepIfWith (orderOf by) (used s) st true)
 unfolding place anyOf
-idle-slot s st p deadline order waiting r none =
+idle-slot by s st p deadline order waiting r none =
     let b : List ℕ = replicate mostFlows 0 in
     let h : List ℕ = replicate mostChannels 0 in
-    let c : Choice (placedAt (used s) st) h b 0 =
-    rw (← placed-by (used s) st p deadline (r .packets), none)
+    let c : Choice (placedWith (orderOf by) (used s) st) h b 0 =
+    rw (← placed-by by (used s) st p deadline (r .packets), none)
     (record { list = refl; marks = getD-zeros mostFlows; few = zero-le; long-chosen = refl; long-marked = refl }) in
     let d : deliveredTo (p .sent) (p .work) b (s .count) ≡ [] =
     filter-none (deliveredBy (p .sent) (p .work) b) (s .count) (λ k l. rw (getD-zeros mostFlows k)) in
     let x : droppedTo (st .slot .0) p b (s .count) ≡ [] =
     filter-none (droppedBy (st .slot .0) p b) (s .count) (λ k l. not-dropped k l (droppedBy (st .slot .0) p b k) refl) in
-    let e = slot-answer s st p deadline order waiting r ahead h b 0 c _ _ _ _ _ (p .sent) refl refl refl refl refl
+    let e = slot-answer by s st p deadline order waiting r h b 0 c _ _ _ _ _ (p .sent) refl refl refl refl refl
     (record { long = refl; below = λ k l. rw (getD-zeros mostFlows k, add-zero); above = λ k l. refl }) in
     record {
       next-is = ap (λ (a : Stepped). a .next) (sym e);
@@ -364,7 +370,7 @@ idle-slot s st p deadline order waiting r none =
         let u = eqb-true (t + 1) (getD (p .due) k 0) (and-r a q w) in
         let v = lt-ltb (getD (p .sent) k 0) (getD (p .work) k 0) (omega (arith, getD-zeros mostFlows k)) in
         let y : readyBy p t k ≡ true = rw (and-l a q w, lt-ltb t (getD (p .due) k 0) (omega arith), v) in
-        let z = ordered-in (aheadBy (p .due)) (readyBy p t) (used s .count) k (rw (used-count s) l) y in
+        let z = ordered-in (aheadBy (keysBy by (p .due))) (readyBy p t) (used s .count) k (rw (used-count s) l) y in
         absurd (omega (arith, ap length none))
 
 -- what the releases and the deadlines of a flow ask of its numbers
@@ -372,19 +378,19 @@ pub numbers-fit : (s : FlowSet) (numbers : Numbers) → AfterNumbers s numbers �
 numbers-fit s numbers n k h = rw (n .periods k) (accepted (used s) (n .good-set) .flow k (rw (used-count s) h) .period-pos)
 
 -- once the ready packets are in their order, all is there that the slot's answer is made from
-pub after-order : (s : FlowSet) (st : State) (numbers : Numbers) (due due′ sent′ old order : List ℕ) (waiting : ℕ) → AfterNumbers s numbers
+pub after-order : (by : Order) (s : FlowSet) (st : State) (numbers : Numbers) (due due′ sent′ old order : List ℕ) (waiting : ℕ) → AfterNumbers s numbers
     → GoodState (used s) st → st .slot .0 < lastSlot → ((k : ℕ) → s .count ≤ k → getD due k 0 ≡ 0)
     → Through (dueBy (numbers .start) (numbers .period) (numbers .deadline) (st .slot .0)) (s .count) due due′
     → Through (hadBy due′ (numbers .deadline) (st .slot .0) (st .sent)) (s .count) (st .sent) sent′
-    → ReadyInOrder (s .count) (st .slot .0) due′ (packetsOf (numbers .start) due′ sent′ (numbers .work)) old order waiting
-    → AfterOrder s st (packetsOf (numbers .start) due′ sent′ (numbers .work)) (numbers .deadline) order waiting
-after-order s st numbers due due′ sent′ old order waiting n g h z a b l =
+    → ReadyInOrder (s .count) (st .slot .0) (keysBy by due′) (packetsOf (numbers .start) due′ sent′ (numbers .work)) old order waiting
+    → AfterOrder by s st (packetsOf (numbers .start) due′ sent′ (numbers .work)) (numbers .deadline) order waiting
+after-order by s st numbers due due′ sent′ old order waiting n g h z a b l =
     record {
       good-set = n .good-set;
       good-state = g;
       before-last = h;
       packets = packets-hold s st numbers due′ sent′ n g (a .below) (b .below) (λ k d. (a .above k d ∙ z k d, b .above k d));
-      in-order = ap (keep ready) (l .in-order) ∙ keep-all ready ready-order all ∙ ap (ordered (aheadBy due′) ready) (sym (used-count s));
+      in-order = ap (keep ready) (l .in-order) ∙ keep-all ready ready-order all ∙ ap (ordered (aheadBy (keysBy by due′)) ready) (sym (used-count s));
       low = λ i h. omega (arith, each i h .0, accepted-count s (n .good-set));
       few = l .few;
       long-order = l .long;
@@ -396,46 +402,46 @@ after-order s st numbers due due′ sent′ old order waiting n g h z a b l =
     ready = readyBy (packetsOf (numbers .start) due′ sent′ (numbers .work)) (st .slot .0)
 
     ready-order : List ℕ
-    ready-order = ordered (aheadBy due′) ready (s .count)
+    ready-order = ordered (aheadBy (keysBy by due′)) ready (s .count)
 
     all : Each (λ k. ready k ≡ true) ready-order
-    all = each-wide (λ k. (k < s .count) × (ready k ≡ true)) (λ k. ready k ≡ true) (λ k e. e .1) ready-order (ordered-each (aheadBy due′) ready (s .count))
+    all = each-wide (λ k. (k < s .count) × (ready k ≡ true)) (λ k. ready k ≡ true) (λ k e. e .1) ready-order
+        (ordered-each (aheadBy (keysBy by due′)) ready (s .count))
 
     each : (i : ℕ) → i < waiting → (getD order i 0 < s .count) × (ready (getD order i 0) ≡ true)
-    each = waiting-each (aheadBy due′) ready (s .count) order waiting (omega (arith, l .few, l .long)) (l .in-order)
+    each = waiting-each (aheadBy (keysBy by due′)) ready (s .count) order waiting (omega (arith, l .few, l .long)) (l .in-order)
 
 -- a run as far as slot t
-pub record RanTo (s : FlowSet) (fault : Fault) (st : State) (delivered dropped t : ℕ) : Type 0 where
-  pub run-is : runOf (used s) t ≡ record { fault = fault; last = st; delivered = delivered; dropped = dropped }
+pub record RanTo (by : Order) (s : FlowSet) (fault : Fault) (st : State) (delivered dropped t : ℕ) : Type 0 where
+  pub run-is : runWith (orderOf by) (used s) t ≡ record { fault = fault; last = st; delivered = delivered; dropped = dropped }
   pub good-state : GoodState (used s) st
   pub slot-is : st .slot .0 ≡ t
 
-pub ran-none : (s : FlowSet) (fault : Fault) (st : State) → fault ≡ recordFault (used s) → st ≡ freshState → RanTo s fault st 0 0 0
-ran-none s fault st e f =
-    rw (e, f) (record { run-is = run-none ahead (used s); good-state = fresh-good (used s); slot-is = refl })
+pub ran-none : (by : Order) (s : FlowSet) (fault : Fault) (st : State) → fault ≡ recordFault (used s) → st ≡ freshState → RanTo by s fault st 0 0 0
+ran-none by s fault st e f =
+    rw (e, f) (record { run-is = run-none (orderOf by) (used s); good-state = fresh-good (used s); slot-is = refl })
 
 -- one slot more
-pub ran-next : (s : FlowSet) (fault : Fault) (st : State) (d x t : ℕ) → good (recordFault (used s) .refusal) ≡ true → t < lastSlot
-    → RanTo s fault st d x t → (next : State) (e o : ℕ)
-    → stepIf (used s) st true .next ≡ next → stepIf (used s) st true .deliveries ≡ e → stepIf (used s) st true .drops ≡ o
-    → RanTo s fault next (d + e) (x + o) (t + 1)
-ran-next s fault st d x t g l r next e o a b c =
+pub ran-next : (by : Order) (s : FlowSet) (fault : Fault) (st : State) (d x t : ℕ) → good (recordFault (used s) .refusal) ≡ true → t < lastSlot
+    → RanTo by s fault st d x t → (next : State) (e o : ℕ) → let answer = stepIfWith (orderOf by) (used s) st true in
+    answer .next ≡ next → answer .deliveries ≡ e → answer .drops ≡ o → RanTo by s fault next (d + e) (x + o) (t + 1)
+ran-next by s fault st d x t g l r next e o a b c =
     let u : FlowSet = used s in
     let h : st .slot .0 < lastSlot = rw (r .slot-is) l in
-    let i = step-good u st g (good-not-bad u st (r .good-state)) h in
-    let k : runOf u (t + 1) ≡ record { fault = fault; last = next; delivered = d + e; dropped = x + o } =
-    run-next u t ∙ rw (r .run-is) (rw i (rw (a, b, c))) in
+    let i = step-with-good (orderOf by) u st g (good-not-bad u st (r .good-state)) h in
+    let k : runWith (orderOf by) u (t + 1) ≡ record { fault = fault; last = next; delivered = d + e; dropped = x + o } =
+    run-with-next (orderOf by) u t ∙ rw (r .run-is) (rw i (rw (a, b, c))) in
     record {
       run-is = k;
-      good-state = rw (← a) (next-good ahead u st (r .good-state) h);
-      slot-is = rw (← a) (next-slot ahead u st ∙ rw (r .slot-is));
+      good-state = rw (← a) (next-good (orderOf by) u st (r .good-state) h);
+      slot-is = rw (← a) (next-slot (orderOf by) u st ∙ rw (r .slot-is));
     }
 
-pub ran-idle : (s : FlowSet) (fault : Fault) (st : State) (d x t : ℕ) → good (recordFault (used s) .refusal) ≡ true → t < lastSlot
-    → RanTo s fault st d x t → (sent : List ℕ) → Idle st sent (stepIf (used s) st true)
-    → RanTo s fault (record { slot = record { 0 = t + 1 }; sent = sent }) d x (t + 1)
-ran-idle s fault st d x t g l r sent i =
-    let n : stepIf (used s) st true .next ≡ record { slot = record { 0 = t + 1 }; sent = sent } =
+pub ran-idle : (by : Order) (s : FlowSet) (fault : Fault) (st : State) (d x t : ℕ) → good (recordFault (used s) .refusal) ≡ true → t < lastSlot
+    → RanTo by s fault st d x t → (sent : List ℕ) → Idle st sent (stepIfWith (orderOf by) (used s) st true)
+    → RanTo by s fault (record { slot = record { 0 = t + 1 }; sent = sent }) d x (t + 1)
+ran-idle by s fault st d x t g l r sent i =
+    let n : stepIfWith (orderOf by) (used s) st true .next ≡ record { slot = record { 0 = t + 1 }; sent = sent } =
     i .next-is ∙ ap (λ (y : ℕ). record { slot = record { 0 = y + 1 }; sent = sent }) (r .slot-is) in
-    let w = ran-next s fault st d x t g l r (record { slot = record { 0 = t + 1 }; sent = sent }) 0 0 n (i .none-delivered) (i .none-dropped) in
+    let w = ran-next by s fault st d x t g l r (record { slot = record { 0 = t + 1 }; sent = sent }) 0 0 n (i .none-delivered) (i .none-dropped) in
     rw (add-zero d, add-zero x) at w

@@ -23,7 +23,7 @@ use Rattle.model.specs.Sums.{bit, anyTo}
 use Rattle.model.specs.Sets.{flowAt, freshState, memb}
 use Rattle.document.specs.Reader.{recordFault}
 use Rattle.document.specs.Delay.{workAt}
-use Rattle.document.specs.Machine.{releaseAt, countAt, hadAt, badState, stepFault, stepped, stepIf, stepOf, runMore, runOf, countWith, nextWith, runWith, stepWith, stepIfWith, Priority, ahead, placedWith}
+use Rattle.document.specs.Machine.{releaseAt, countAt, hadAt, badState, stepFault, stepped, runMore, countWith, nextWith, runWith, stepWith, stepIfWith, Priority, placedWith}
 use Rattle.laws.specs.SumLaws.{any-none, neither}
 use Rattle.machine.specs.ArrayLists.{length-listTo, getD-listTo, getD-zeros}
 use Rattle.machine.specs.PacketNumbers.{next-is, ready-if}
@@ -228,17 +228,3 @@ module _ (first : Priority) where
         let f : n ≡ lastSlot + (n - lastSlot) = omega arith in
         ap (runWith first s) f ∙ run-stays s h (n - lastSlot) ∙ ap (runWith first s) (sym e)
   ]
-
--- the same by document 01's order
-abbrev pub RunAt : FlowSet → ℕ → Type 0
-RunAt = RunAtWith ahead
-
-pub step-good : (s : FlowSet) (st : State) → good (recordFault s .refusal) ≡ true → badState s st ≡ false → st .slot .0 < lastSlot
-    → stepOf s st ≡ stepIf s st true
-step-good = step-with-good ahead
-
-pub run-next : (s : FlowSet) (n : ℕ) → runOf s (n + 1) ≡ runMore (runOf s n) (stepOf s (runOf s n .last))
-run-next = run-with-next ahead
-
-pub run-good : (s : FlowSet) → good (recordFault s .refusal) ≡ true → (n : ℕ) → n ≤ lastSlot → RunAt s n
-run-good = run-with-good ahead

@@ -8,7 +8,7 @@ use Rattle.model.specs.declared.kinds.FlowSet.{FlowSet}
 use Rattle.model.specs.declared.kinds.State.{State}
 use Rattle.model.specs.Limits.{mostChannels}
 use Rattle.model.specs.Sets.{used}
-use Rattle.document.specs.Machine.{Priority, ahead, filled, noSend, placedWith, sendsAt, sendsWith}
+use Rattle.document.specs.Machine.{Priority, filled, noSend, placedWith, sendsWith}
 use Rattle.document.specs.Program.{sendLines}
 use Rattle.laws.specs.{Padded.{take-filled}, Used.{used-map}}
 use Rattle.promise.specs.Reports.{sends-length}
@@ -25,11 +25,3 @@ module _ (first : Priority) where
   pub lines-with : (s : FlowSet) (st : State) → s .map .0 < 65536 → let sends = sendsWith first (used s) st in
       sendLines sends ≡ sendLines (take (length sends) (filled mostChannels noSend sends))
   lines-with s st m = ap sendLines (sym (take-filled mostChannels noSend (sendsWith first (used s) st) (sends-with-few s st m)))
-
--- the same by document 01's order
-pub sends-few : (s : FlowSet) (st : State) → s .map .0 < 65536 → length (sendsAt (used s) st) ≤ mostChannels
-sends-few = sends-with-few ahead
-
-pub lines-of : (s : FlowSet) (st : State) → s .map .0 < 65536
-    → sendLines (sendsAt (used s) st) ≡ sendLines (take (length (sendsAt (used s) st)) (filled mostChannels noSend (sendsAt (used s) st)))
-lines-of = lines-with ahead

@@ -17,6 +17,7 @@ mod state;
 use crate::runs::run_accepted;
 use crate::state::refused;
 use model::FlowSet;
+use model::Order;
 use model::Ran;
 use model::State;
 use model::Stepped;
@@ -39,7 +40,7 @@ pub fn run(s: FlowSet, budget: u32) -> Ran
             dropped: 0,
         };
     }
-    run_accepted(s, fault, budget)
+    run_accepted(Order::Deadline, s, fault, budget)
 }
 
 // One step: what is sent, delivered and dropped in the state's slot, and the next state. Refusals in the order of document 01: the
@@ -51,5 +52,5 @@ pub fn step(s: FlowSet, st: State) -> Stepped
     if fault.refuses() {
         return refused(fault, st);
     }
-    step_accepted(s, st)
+    step_accepted(Order::Deadline, s, st)
 }

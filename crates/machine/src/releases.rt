@@ -7,8 +7,9 @@ ghost use Rattle.machine.specs.LentArrays.{PerFlow, numbersAt, packetsOf
 ghost use Rattle.machine.specs.NextReleases.{NoneBefore, Released};
 ghost use Rattle.model.specs.Limits.{lastSlot, mostFlows};
 ghost use Rattle.machine.specs.RunSlots.{AfterReleases, WaitingInOrder};
-use crate::order::order_ready;
+use crate::order::line_up;
 use model::Flow;
+use model::Order;
 use model::Slot;
 use model::Span;
 
@@ -61,8 +62,9 @@ pub struct UntilRelease {
     pub waiting: usize,
 }
 
-// Makes the releases of slot t, if it has any. Only then are the packets put in order anew, by absolute deadline.
+// Makes the releases of slot t, if it has any. Only then are the packets put in order anew.
 pub fn release_packets(
+    by: Order,
     count: usize,
     t: u32,
     start: &[u32; Flow::MOST],
@@ -80,15 +82,15 @@ pub fn release_packets(
     requires { ⌜ PerFlow (now due) × PerFlow (now next) × PerFlow (now sent) × PerFlow (now order) ⌝ }
     requires { ⌜ ((k : ℕ) → (getD (now period) k 0 ≤ 65535) × (getD (now deadline) k 0 ≤ 65535)) ⌝ }
     requires { ⌜ NoneBefore count (soonest .0) (now next) ⌝ }
-    requires { ⌜ (t < soonest .0 → WaitingInOrder count t (packetsOf (now start) (now due) (now sent) (now work)) (now order) waiting) ⌝ }
-    ensures { λ r. ⌜ AfterReleases count t (numbersAt start period deadline work)
+    requires { ⌜ (t < soonest .0 → WaitingInOrder by count t (packetsOf (now start) (now due) (now sent) (now work)) (now order) waiting) ⌝ }
+    ensures { λ r. ⌜ AfterReleases by count t (numbersAt start period deadline work)
         (runArraysAt due next sent order (soonest .0) waiting) (runArraysAfter due next sent order (r .soonest .0) (r .waiting)) ⌝ }
 {
     if t < soonest.0 {
         return UntilRelease { soonest, waiting };
     }
     let first = release(count, t, period, deadline, due, next, sent);
-    let ready = order_ready(count, t, due, start, due, sent, work, order);
+    let ready = line_up(by, count, t, start, due, sent, work, order);
     UntilRelease {
         soonest: first,
         waiting: ready,

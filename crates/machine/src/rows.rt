@@ -13,6 +13,7 @@ use crate::runs::run_to;
 use model::ChannelMap;
 use model::Flow;
 use model::FlowSet;
+use model::Order;
 use model::Slot;
 
 // The number of the transmission after which a packet has had n: they are numbered from 0.
@@ -68,5 +69,5 @@ pub fn rows_accepted(s: FlowSet, slots: u32, table: &mut [u16])
     requires { ⌜ (slots ≤ 65536) × (length (flat (rowsTo (used s) slots)) ≤ length (now table)) ⌝ }
     ensures { λ r. ⌜ now (table .exit) ≡ atStart (flat (rowsTo (used s) slots)) (now (table .entry)) ⌝ }
 {
-    run_to(s, Slot(slots), true, table);
+    run_to(Order::Deadline, s, Slot(slots), true, table);
 }

@@ -14,8 +14,8 @@ ghost use Rattle.machine.specs.RunSoFar.{RunOfSome, SlotRuns, SlotsRun};
 ghost use Rattle.machine.specs.RowsPut.{RowsFit, RowsOfSlots};
 ghost use Rattle.machine.specs.SlotByColumns.{AfterNumbers, RanTo};
 ghost use Rattle.document.specs.Reader.{recordFault};
-ghost use Rattle.document.specs.Machine.{runOf};
-ghost use Rattle.document.specs.Superframe.{atStart, flat, rowsTo};
+ghost use Rattle.document.specs.Machine.{orderOf, runWith};
+ghost use Rattle.document.specs.Superframe.{atStart, flat, rowsToWith};
 ghost use Rattle.machine.specs.LinkColumns.{LinksThere, Routes};
 ghost use mathlib.Core.Bool.{true};
 ghost use Rattle.model.specs.Refusals.{good};
@@ -31,6 +31,7 @@ use model::ChannelMap;
 use model::Fault;
 use model::Flow;
 use model::FlowSet;
+use model::Order;
 use model::Ran;
 use model::Slot;
 use model::State;
@@ -159,10 +160,25 @@ fn idle_slot(soonest: Slot, waiting: usize) -> SlotRun
     }
 }
 
+// What a run knows after a slot in which packets waited.
+fn busy_slot(soonest: Slot, got: SlotEnd) -> SlotRun
+    ensures { λ r. ⌜ (r .soonest ≡ soonest) × (r .waiting ≡ got .waiting) × (r .placed ≡ got .placed) × (r .delivered ≡ got .delivered)
+        × (r .dropped ≡ got .dropped) ⌝ }
+{
+    SlotRun {
+        soonest,
+        waiting: got.waiting,
+        placed: got.placed,
+        delivered: got.delivered,
+        dropped: got.dropped,
+    }
+}
+
 // Runs one slot. A slot without a ready packet sends, delivers and drops nothing, and until the next release the same holds of the slots
 // after it. The placed flows are the first entries of `chosen`. The contract holds for every set whose numbers the arrays hold, so the set
 // itself is not needed.
 fn run_slot(
+    by: Order,
     count: usize,
     ways: usize,
     t: u32,
@@ -180,14 +196,15 @@ fn run_slot(
     order: &mut [usize; Flow::MOST],
     chosen: &mut [usize; ChannelMap::MOST],
 ) -> SlotRun
-    requires { ⌜ (t < lastSlot) × RunOfSome count ways t (numbersOf (now start) (now period) (now deadline) (now work))
+    requires { ⌜ (t < lastSlot) × RunOfSome by count ways t (numbersOf (now start) (now period) (now deadline) (now work))
         (linksOf (now tries) (now routes)) (runArraysOf (now due) (now next) (now sent) (now order) (soonest .0) waiting)
         × PerPlaced (now chosen) ⌝ }
-    ensures { λ r. ⌜ SlotRuns count ways t (numbersAt start period deadline work) (linksAt tries routes)
+    ensures { λ r. ⌜ SlotRuns by count ways t (numbersAt start period deadline work) (linksAt tries routes)
         (runArraysAt due next sent order (soonest .0) waiting) (runArraysAfter due next sent order (r .soonest .0) (r .waiting)) (r .delivered) (r .dropped)
         (now (chosen .exit)) (r .placed) ⌝ }
 {
     let at = release_packets(
+        by,
         count,
         t,
         start,
@@ -201,9 +218,8 @@ fn run_slot(
         sent,
         order,
     );
-    let until = at.soonest;
     if at.waiting == 0 {
-        return idle_slot(until, at.waiting);
+        return idle_slot(at.soonest, at.waiting);
     }
     let got = count_slot(
         count,
@@ -219,13 +235,7 @@ fn run_slot(
         sent,
         chosen,
     );
-    SlotRun {
-        soonest: until,
-        waiting: got.waiting,
-        placed: got.placed,
-        delivered: got.delivered,
-        dropped: got.dropped,
-    }
+    busy_slot(at.soonest, got)
 }
 
 // How many packets a run delivers and drops.
@@ -236,6 +246,7 @@ struct RunCounts {
 
 // Runs all slots from the first on; if rows are put, each slot's follow those of the slots before it at the table's start.
 fn run_all_slots(
+    by: Order,
     slots: u32,
     count: usize,
     ways: usize,
@@ -252,13 +263,13 @@ fn run_all_slots(
     put: bool,
     table: &mut [u16],
 ) -> RunCounts
-    requires { ⌜ (slots ≤ lastSlot) × RunOfSome count ways 0 (numbersOf (now start) (now period) (now deadline) (now work))
+    requires { ⌜ (slots ≤ lastSlot) × RunOfSome by count ways 0 (numbersOf (now start) (now period) (now deadline) (now work))
         (linksOf (now tries) (now routes)) (runArraysOf (now due) (now next) (now sent) (now order) 0 0) ⌝ }
-    requires { ⌜ (put ≡ true → RowsFit slots count ways (numbersOf (now start) (now period) (now deadline) (now work)) (linksOf (now tries) (now routes))
+    requires { ⌜ (put ≡ true → RowsFit by slots count ways (numbersOf (now start) (now period) (now deadline) (now work)) (linksOf (now tries) (now routes))
         (runArraysOf (now due) (now next) (now sent) (now order) 0 0) (length (now table))) ⌝ }
-    ensures run { λ r. ⌜ SlotsRun slots count ways (numbersAt start period deadline work) (linksAt tries routes)
+    ensures run { λ r. ⌜ SlotsRun by slots count ways (numbersAt start period deadline work) (linksAt tries routes)
         (runArraysAt due next sent order 0 0) (now (sent .exit)) (r .delivered) (r .dropped) ⌝ }
-    ensures rows { λ r. ⌜ (put ≡ true → RowsOfSlots slots count ways (numbersAt start period deadline work) (linksAt tries routes)
+    ensures rows { λ r. ⌜ (put ≡ true → RowsOfSlots by slots count ways (numbersAt start period deadline work) (linksAt tries routes)
         (runArraysAt due next sent order 0 0) (now (table .entry)) (now (table .exit))) ⌝ }
 {
     let mut chosen = [0usize; ChannelMap::MOST];
@@ -270,6 +281,7 @@ fn run_all_slots(
     let mut t = 0;
     while t < slots {
         let got = run_slot(
+            by,
             count,
             ways,
             t,
@@ -319,6 +331,7 @@ pub struct RunEnd {
 
 // The run of an accepted set whose numbers are in arrays; if rows are put, they stand at the table's start.
 fn run_columns(
+    by: Order,
     s: FlowSet,
     end: Slot,
     start: &[u32; Flow::MOST],
@@ -332,9 +345,9 @@ fn run_columns(
 ) -> RunEnd
     requires { ⌜ AfterNumbers s (numbersOf (now start) (now period) (now deadline) (now work)) × Routes s (linksOf (now tries) (now routes)) ⌝ }
     requires { ⌜ (end .0 ≤ lastSlot) × PerFlow (now start) ⌝ }
-    requires { ⌜ (put ≡ true → (end .0 ≤ 65536) × (length (flat (rowsTo (used s) (end .0))) ≤ length (now table))) ⌝ }
-    ensures run { λ r. ⌜ RanTo s (recordFault (used s)) (r .last) (r .delivered) (r .dropped) (end .0) ⌝ }
-    ensures rows { λ r. ⌜ (put ≡ true → now (table .exit) ≡ atStart (flat (rowsTo (used s) (end .0))) (now (table .entry))) ⌝ }
+    requires { ⌜ (put ≡ true → (end .0 ≤ 65536) × (length (flat (rowsToWith (orderOf by) (used s) (end .0))) ≤ length (now table))) ⌝ }
+    ensures run { λ r. ⌜ RanTo by s (recordFault (used s)) (r .last) (r .delivered) (r .dropped) (end .0) ⌝ }
+    ensures rows { λ r. ⌜ (put ≡ true → now (table .exit) ≡ atStart (flat (rowsToWith (orderOf by) (used s) (end .0))) (now (table .entry))) ⌝ }
 {
     let count = s.count as usize;
     let map = s.map;
@@ -345,6 +358,7 @@ fn run_columns(
     let mut sent = [0u8; Flow::MOST];
     let mut order = [0usize; Flow::MOST];
     let got = run_all_slots(
+        by,
         end.0,
         count,
         ways,
@@ -369,12 +383,12 @@ fn run_columns(
     }
 }
 
-// The run of an accepted set as far as a slot; if rows are put, they stand at the table's start.
-pub fn run_to(s: FlowSet, end: Slot, put: bool, table: &mut [u16]) -> RunEnd
+// The run of an accepted set, in an order of priority, as far as a slot; if rows are put, they stand at the table's start.
+pub fn run_to(by: Order, s: FlowSet, end: Slot, put: bool, table: &mut [u16]) -> RunEnd
     requires { ⌜ (good (recordFault (used s) .refusal) ≡ true) × (end .0 ≤ lastSlot) ⌝ }
-    requires { ⌜ (put ≡ true → (end .0 ≤ 65536) × (length (flat (rowsTo (used s) (end .0))) ≤ length (now table))) ⌝ }
-    ensures run { λ r. ⌜ RanTo s (recordFault (used s)) (r .last) (r .delivered) (r .dropped) (end .0) ⌝ }
-    ensures rows { λ r. ⌜ (put ≡ true → now (table .exit) ≡ atStart (flat (rowsTo (used s) (end .0))) (now (table .entry))) ⌝ }
+    requires { ⌜ (put ≡ true → (end .0 ≤ 65536) × (length (flat (rowsToWith (orderOf by) (used s) (end .0))) ≤ length (now table))) ⌝ }
+    ensures run { λ r. ⌜ RanTo by s (recordFault (used s)) (r .last) (r .delivered) (r .dropped) (end .0) ⌝ }
+    ensures rows { λ r. ⌜ (put ≡ true → now (table .exit) ≡ atStart (flat (rowsToWith (orderOf by) (used s) (end .0))) (now (table .entry))) ⌝ }
 {
     let mut start = [0u32; Flow::MOST];
     let mut period = [0u16; Flow::MOST];
@@ -392,6 +406,7 @@ pub fn run_to(s: FlowSet, end: Slot, put: bool, table: &mut [u16]) -> RunEnd
         &mut routes,
     );
     run_columns(
+        by,
         s,
         end,
         &start,
@@ -405,14 +420,14 @@ pub fn run_to(s: FlowSet, end: Slot, put: bool, table: &mut [u16]) -> RunEnd
     )
 }
 
-// The run of an accepted set. It puts no rows, so its table may have any length.
-pub fn run_accepted(s: FlowSet, fault: Fault, budget: u32) -> Ran
+// The run of an accepted set in an order of priority. It puts no rows, so its table may have any length.
+pub fn run_accepted(by: Order, s: FlowSet, fault: Fault, budget: u32) -> Ran
     requires { ⌜ (good (recordFault (used s) .refusal) ≡ true) × (fault ≡ recordFault (used s)) ⌝ }
-    ensures { λ r. ⌜ r ≡ runOf (used s) budget ⌝ }
+    ensures { λ r. ⌜ r ≡ runWith (orderOf by) (used s) budget ⌝ }
 {
     let end = reached(budget);
     let mut table = [0u16; 1];
-    let got = run_to(s, end, false, &mut table);
+    let got = run_to(by, s, end, false, &mut table);
     let last = got.last;
     Ran {
         fault,

@@ -207,6 +207,12 @@ impl State {
     }
 }
 
+// The orders in which rule 4 takes ready packets: earlier absolute deadline and then lower flow number, or lower flow number alone.
+pub enum Order {
+    Deadline,
+    Number,
+}
+
 // The limits, as the types have them.
 pub struct Limits {
     pub first_channel: u16,

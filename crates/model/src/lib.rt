@@ -27,6 +27,7 @@ pub use kinds::ChannelMap;
 pub use kinds::Flow;
 pub use kinds::FlowSet;
 pub use kinds::Limits;
+pub use kinds::Order;
 pub use kinds::Slot;
 pub use kinds::Span;
 pub use kinds::State;

@@ -14,7 +14,7 @@ use Rattle.model.specs.declared.answers.Refusal.the-variants.{NoRoom}
 use Rattle.model.specs.Refusals.{good, faultAt, refusalNumber}
 use Rattle.model.specs.Sets.{used}
 use Rattle.document.specs.Reader.{readText, refusedWriting, wrote}
-use Rattle.document.specs.Program.{mostInput, planOf, planText, planIf, refusedWord, refusedLine, planAnswer, planInto}
+use Rattle.document.specs.Program.{mostInput, planOf, planText, printIf, printText, refusedWord, refusedLine, planAnswer, printAnswer, planInto, printInto}
 use Rattle.text.specs.Lengths.{line-le, put-length, put-long, put-start, put-read}
 use Rattle.text.specs.Put.{Put, put-same}
 use Rattle.promise.specs.TextHeld.{text-held, text-passes}
@@ -30,7 +30,7 @@ planBy input b =
     ]
 
 by-length : (input : List ℕ) → planText input ≡ planBy input (ltb mostInput (length input))
-unfolding planText
+unfolding printText
 by-length input = refl
 
 pub text-long : (input : List ℕ) → ltb mostInput (length input) ≡ true → planText input ≡ refusedLine (faultAt NoRoom 0)
@@ -41,10 +41,10 @@ text-short input h = by-length input ∙ ap (planBy input) h
 
 -- a plan, or a refusal
 pub read-good : (r : Reading) → good (r .fault .refusal) ≡ true → planRead r ≡ planOf (used (r .set))
-read-good r h = ap (planIf r) h
+read-good r h = ap (printIf planOf r) h
 
 pub read-refused : (r : Reading) → good (r .fault .refusal) ≡ false → planRead r ≡ refusedLine (r .fault)
-read-refused r h = ap (planIf r) h
+read-refused r h = ap (printIf planOf r) h
 
 -- ---- no text is longer than the longest plan
 
@@ -54,7 +54,7 @@ refused-le f = let a = line-le refusedWord (refusalNumber (f .refusal) ∷ f .li
 read-le : (input : List ℕ) → length (planRead (readText input)) ≤ mostPlan
 read-le input = go (good (readText input .fault .refusal)) refl
   where
-    go : (b : Bool) → good (readText input .fault .refusal) ≡ b → length (planIf (readText input) b) ≤ mostPlan
+    go : (b : Bool) → good (readText input .fault .refusal) ≡ b → length (printIf planOf (readText input) b) ≤ mostPlan
     go true e = plan-le (readText input .set) (text-held input e .0) (text-passes input e)
     go false e = refused-le (readText input .fault)
 
@@ -67,7 +67,7 @@ text-le input = go (ltb mostInput (length input)) refl
 
 -- so a buffer of that length always has room
 pub plan-fits : (input : List ℕ) (room : ℕ) → mostPlan ≤ room → planAnswer input room ≡ wrote (length (planText input))
-unfolding planAnswer
+unfolding printAnswer
 plan-fits input room h = rw (le-ltb room (length (planText input)) (omega (arith, text-le input)))
 
 -- ---- the text in a lent buffer
@@ -91,13 +91,13 @@ module _ (input : List ℕ) {o text : List ℕ} {n : ℕ} (p : Put o 0 (planText
   whole-text = put-read p (omega (arith, text-le input)) (omega (arith, text-le input))
 
   pub no-room : (out : List ℕ) → length out < n → Planned input out out (refusedWriting (faultAt NoRoom 0))
-  unfolding planAnswer planInto
+  unfolding printAnswer printInto
   no-room out h =
       let e : ltb (length out) (length (planText input)) ≡ true = lt-ltb (length out) (length (planText input)) (omega (arith, whole)) in
       (rw e, rw e)
 
   pub room : (out new : List ℕ) (r : ℕ) → n ≤ length out → Put out 0 (take n text) new r → Planned input out new (wrote n)
-  unfolding planAnswer planInto
+  unfolding printAnswer printInto
   room out new r h q =
       let e : ltb (length out) (length (planText input)) ≡ false = le-ltb (length out) (length (planText input)) (omega (arith, whole)) in
       let g : Put out 0 (planText input) new r = put-same out 0 (take n text) (planText input) new r whole-text q in

@@ -13,12 +13,12 @@ use Rattle.model.specs.Sums.{bit}
 use Rattle.model.specs.Sets.{used}
 use Rattle.document.specs.Reader.{recordFault}
 use Rattle.document.specs.Delay.{boundsOf, boundsIf, boundsFault, verdictOf}
-use Rattle.document.specs.Machine.{sendsAt, runOf}
-use Rattle.document.specs.Program.{boundLines, runLines, planOf, verdictWord}
+use Rattle.document.specs.Machine.{Priority, ahead, sendsWith, runWith}
+use Rattle.document.specs.Program.{boundLines, runLinesWith, planOf, verdictWord}
 use Rattle.laws.specs.Accepted.{accepted}
 use Rattle.text.specs.Lengths.{line-le, bounds-le, sends-le}
 use Rattle.plan_text.specs.{BoundText.{boundText, bound-text}, PlanOfReading.{mostPlan}}
-use Rattle.machine.specs.StepLines.{sends-few}
+use Rattle.machine.specs.StepLines.{sends-with-few}
 
 -- the margin is deadline less bound, of a refused answer too
 margin-is : (s : FlowSet) (k : ℕ) → boundsOf s k .margin ≡ pos (boundsOf s k .deadline .0) -ℤ pos (boundsOf s k .tightened)
@@ -36,13 +36,14 @@ bounds-more s k = rw add-one (ap (λ (l : List ℕ). boundLines s k ++ l) (bound
 
 -- ---- how long a plan can be
 
-run-le : (s : FlowSet) → s .map .0 < 65536 → (n : ℕ) → length (runLines (used s) n) ≤ 1136 * n
-unfolding runLines
-run-le s m zero = omega arith
-run-le s m (suc n) =
-    let a = run-le s m n in
-    let b = sends-few s (runOf (used s) n .last) m in
-    let c = sends-le (sendsAt (used s) (runOf (used s) n .last)) in
+run-le : (first : Priority) (s : FlowSet) → s .map .0 < 65536 → (n : ℕ) → length (runLinesWith first (used s) n) ≤ 1136 * n
+unfolding runLinesWith
+run-le first s m zero = omega arith
+run-le first s m (suc n) =
+    let st = runWith first (used s) n .last in
+    let a = run-le first s m n in
+    let b = sends-with-few first s st m in
+    let c = sends-le (sendsWith first (used s) st) in
     simp length-append (omega arith)
 
 pub plan-le : (s : FlowSet) → s .map .0 < 65536 → good (recordFault (used s) .refusal) ≡ true → length (planOf (used s)) ≤ mostPlan
@@ -50,6 +51,6 @@ unfolding planOf
 plan-le s m h =
     let a = line-le verdictWord (bit (verdictOf (used s) .basic) ∷ bit (verdictOf (used s) .tightened) ∷ verdictOf (used s) .rounds ∷ []) in
     let b = bounds-le (used s) (used s .count) in
-    let c = run-le s m 12 in
+    let c = run-le ahead s m 12 in
     let d = accepted (used s) h .count-le in
     simp length-append (omega arith)

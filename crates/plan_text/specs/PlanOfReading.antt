@@ -7,7 +7,7 @@ use Rattle.model.specs.declared.answers.Reading.{Reading}
 use Rattle.model.specs.Refusals.{good}
 use Rattle.document.specs.Reader.{recordFault}
 use Rattle.model.specs.Sets.{used}
-use Rattle.document.specs.Program.{planIf}
+use Rattle.document.specs.Program.{planOf, printIf}
 
 -- no plan has more bytes; 18,345 are what the sum of the longest lines allows
 abbrev pub mostPlan : ℕ
@@ -19,4 +19,4 @@ Passed r = good (r .fault .refusal) ≡ true → good (recordFault (used (r .set
 
 -- what is printed for it, or for its refusal
 abbrev pub planRead : Reading → List ℕ
-planRead r = planIf r (good (r .fault .refusal))
+planRead r = printIf planOf r (good (r .fault .refusal))

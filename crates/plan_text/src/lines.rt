@@ -5,7 +5,8 @@ ghost use Rattle.model.specs.Refusals.{faultAt, good};
 ghost use mathlib.Core.Bool.{true};
 ghost use Rattle.model.specs.Sets.{used};
 ghost use Rattle.document.specs.Reader.{recordFault};
-ghost use Rattle.document.specs.Program.{boundLines, mostInput, planOf, refusedLine, runLines, verdictLine};
+ghost use Rattle.document.specs.Program.{boundLines, mostInput, planOf, refusedLine, runLinesWith, verdictLine};
+ghost use Rattle.document.specs.Machine.{orderOf};
 ghost use Rattle.text.specs.Put.{Put};
 ghost use mathlib.Core.List.{_∷_};
 ghost use Rattle.plan_text.specs.Margins.{marginText};
@@ -17,6 +18,7 @@ use crate::MOST_INPUT;
 use delay::AllBounds;
 use model::Bounds;
 use model::FlowSet;
+use model::Order;
 use model::Refusal;
 use model::State;
 use model::Verdict;
@@ -27,16 +29,16 @@ use text::put_sends;
 // A plan has the `send` lines of slots 0 to 11.
 const SLOTS: usize = 12;
 
-// The `send` lines of the first twelve slots.
-fn put_run(out: &mut [u8], at: usize, s: FlowSet) -> usize
+// The `send` lines of the first twelve slots, in an order of priority.
+fn put_run(by: Order, out: &mut [u8], at: usize, s: FlowSet) -> usize
     requires { ⌜ good (recordFault (used s) .refusal) ≡ true ⌝ }
-    ensures { λ r. ⌜ Put (now (out .entry)) at (runLines (used s) 12) (now (out .exit)) r ⌝ }
+    ensures { λ r. ⌜ Put (now (out .entry)) at (runLinesWith (orderOf by) (used s) 12) (now (out .exit)) r ⌝ }
 {
     let mut st = State::fresh();
     let mut place = at;
     let mut t: usize = 0;
     while t < SLOTS {
-        let stepped = machine::step_accepted(s, st);
+        let stepped = machine::step_accepted(by, s, st);
         let sent = stepped.sent;
         place = put_sends(out, place, sent, stepped.sends);
         let next = stepped.next;
@@ -119,5 +121,5 @@ pub fn put_plan(out: &mut [u8], s: FlowSet) -> usize
     let v = delay::verdict_of(s, all);
     let first = put_verdict(out, 0, v);
     let second = put_bounds(out, first, s, all);
-    put_run(out, second, s)
+    put_run(Order::Deadline, out, second, s)
 }

@@ -1,4 +1,4 @@
--- One slot for C is the step of the set that was read, written: the two agree on the fault, the lines and the next state.
+-- One slot for C is the step of the set that was read, written, by any order of priority: the two agree on the fault, the lines and the next state.
 use mathlib.Core.Path.{_≡_, refl, sym, ap, _∙_}
 use mathlib.Core.Bool.{Bool, true, false, cond, false≢true}
 use mathlib.Core.List.{List, _++_}
@@ -13,25 +13,25 @@ use Rattle.model.specs.declared.answers.Stepped.{Stepped}
 use Rattle.model.specs.declared.answers.Refusal.the-variants.{NoRoom, BadState}
 use Rattle.model.specs.Refusals.{good, faultAt, noFault, orElse}
 use Rattle.model.specs.Sets.{used}
-use Rattle.document.specs.Machine.{stepOf, stepIf, stepFault, nextState, stepWith}
-use Rattle.document.specs.Program.{stateOf, stateBytes, stateLength, slotLines, slotFault, slotState, slotBuffer}
+use Rattle.document.specs.Machine.{Priority, stepFault, nextWith, stepWith, stepIfWith}
+use Rattle.document.specs.Program.{stateOf, stateBytes, stateLength, slotLinesWith, slotFaultWith, slotStateWith, slotBufferWith}
 use Rattle.laws.specs.Accepted.{or-else-good}
-use Rattle.machine.specs.StepLines.{lines-of}
+use Rattle.machine.specs.StepLines.{lines-with}
 use Rattle.planner.specs.StateBytes.{with-state}
 use Rattle.planner.specs.BeforeStep.{PassesIfRead, faultBeforeStep}
 use Rattle.planner.specs.StepWritten.{stepLines, written, roomFault, stepAnswer, stepState, stepBuffer}
 use Rattle.document.specs.Reader.{recordFault, refusedWriting}
-use Rattle.document.specs.ForC.{slotAnswer}
+use Rattle.document.specs.ForC.{slotAnswerWith}
 
-abbrev stepFor : Reading → List ℕ → Stepped
-stepFor r state = stepOf (used (r .set)) (stateOf state)
+abbrev stepFor : Priority → Reading → List ℕ → Stepped
+stepFor first r state = stepWith first (used (r .set)) (stateOf state)
 
 -- ---- the same fault, lines and next state
 
-pub record Agrees (r : Reading) (state : List ℕ) (a : Stepped) : Type 0 where
-  pub fault-is : (room : ℕ) → slotFault r state room ≡ roomFault a room
-  pub lines-is : good (a .fault .refusal) ≡ true → slotLines (used (r .set)) state ≡ stepLines a
-  pub next-is : good (a .fault .refusal) ≡ true → nextState (used (r .set)) (stateOf state) ≡ a .next
+pub record Agrees (first : Priority) (r : Reading) (state : List ℕ) (a : Stepped) : Type 0 where
+  pub fault-is : (room : ℕ) → slotFaultWith first r state room ≡ roomFault a room
+  pub lines-is : good (a .fault .refusal) ≡ true → slotLinesWith first (used (r .set)) state ≡ stepLines a
+  pub next-is : good (a .fault .refusal) ≡ true → nextWith first (used (r .set)) (stateOf state) ≡ a .next
 
 -- what it shows that nothing is refused before the step
 whole : (b : Bool) → good (cond b noFault (faultAt BadState 0) .refusal) ≡ true → b ≡ true
@@ -48,38 +48,40 @@ before-good f n h =
 abbrev roomed : List ℕ → ℕ → Fault
 roomed l room = cond (ltb room (length l)) (faultAt NoRoom 0) noFault
 
-late : (r : Reading) (state : List ℕ) → good (faultBeforeStep (r .fault) (length state) .refusal) ≡ true → (room : ℕ)
-    → slotFault r state room ≡ orElse (stepFault (used (r .set)) (stateOf state)) (roomed (slotLines (used (r .set)) state) room)
-unfolding slotFault
-late r state h room = let w = before-good (r .fault) (length state) h in rw (w .0, w .1)
+late : (first : Priority) (r : Reading) (state : List ℕ) → good (faultBeforeStep (r .fault) (length state) .refusal) ≡ true → (room : ℕ)
+    → slotFaultWith first r state room ≡ orElse (stepFault (used (r .set)) (stateOf state)) (roomed (slotLinesWith first (used (r .set)) state) room)
+unfolding slotFaultWith
+late first r state h room = let w = before-good (r .fault) (length state) h in rw (w .0, w .1)
 
-pub agrees : (r : Reading) (state : List ℕ) → good (faultBeforeStep (r .fault) (length state) .refusal) ≡ true → r .set .map .0 < 65536
-    → Agrees r state (stepFor r state)
-unfolding stepWith roomFault slotLines
-agrees r state h m = go (good (stepFault (used (r .set)) (stateOf state) .refusal)) refl
+pub agrees : (first : Priority) (r : Reading) (state : List ℕ) → good (faultBeforeStep (r .fault) (length state) .refusal) ≡ true → r .set .map .0 < 65536
+    → Agrees first r state (stepFor first r state)
+unfolding stepWith roomFault slotLinesWith
+agrees first r state h m = go (good (stepFault (used (r .set)) (stateOf state) .refusal)) refl
   where
-    go : (b : Bool) → good (stepFault (used (r .set)) (stateOf state) .refusal) ≡ b → Agrees r state (stepIf (used (r .set)) (stateOf state) b)
+    go : (b : Bool) → good (stepFault (used (r .set)) (stateOf state) .refusal) ≡ b → Agrees first r state (stepIfWith first (used (r .set)) (stateOf state) b)
     go true e =
         record {
-          fault-is = λ room. late r state h room ∙ rw e (ap (λ (l : List ℕ). roomed l room) (lines-of (r .set) (stateOf state) m));
-          lines-is = λ g. lines-of (r .set) (stateOf state) m;
+          fault-is = λ room. late first r state h room ∙ rw e (ap (λ (l : List ℕ). roomed l room) (lines-with first (r .set) (stateOf state) m));
+          lines-is = λ g. lines-with first (r .set) (stateOf state) m;
           next-is = λ g. refl;
         }
     go false e =
         record {
-          fault-is = λ room. late r state h room ∙ rw e;
+          fault-is = λ room. late first r state h room ∙ rw e;
           lines-is = λ g. absurd (false≢true (sym e ∙ g));
           next-is = λ g. absurd (false≢true (sym e ∙ g));
         }
 
 -- what is refused before the step is the slot's fault
-before-slot : (r : Reading) (state : List ℕ) (room : ℕ) → good (faultBeforeStep (r .fault) (length state) .refusal) ≡ false
-    → slotFault r state room ≡ faultBeforeStep (r .fault) (length state)
-unfolding slotFault faultBeforeStep
-before-slot r state room h = go (good (r .fault .refusal)) (eqb (length state) stateLength) refl h
+before-slot : (first : Priority) (r : Reading) (state : List ℕ) (room : ℕ) → good (faultBeforeStep (r .fault) (length state) .refusal) ≡ false
+    → slotFaultWith first r state room ≡ faultBeforeStep (r .fault) (length state)
+unfolding slotFaultWith faultBeforeStep
+before-slot first r state room h = go (good (r .fault .refusal)) (eqb (length state) stateLength) refl h
   where
     go : (b c : Bool) → good (r .fault .refusal) ≡ b → good (cond b (cond c noFault (faultAt BadState 0)) (r .fault) .refusal) ≡ false
-        → cond b (cond c (orElse (stepFault (used (r .set)) (stateOf state)) (roomed (slotLines (used (r .set)) state) room)) (faultAt BadState 0)) (r .fault)
+        → cond b
+        (cond c (orElse (stepFault (used (r .set)) (stateOf state)) (roomed (slotLinesWith first (used (r .set)) state) room)) (faultAt BadState 0))
+        (r .fault)
         ≡ cond b (cond c noFault (faultAt BadState 0)) (r .fault)
     go false c e k = refl
     go true false e k = refl
@@ -87,9 +89,9 @@ before-slot r state room h = go (good (r .fault .refusal)) (eqb (length state) s
 
 -- ---- the answer, the state and the buffer after a slot
 
-abbrev pub Answered : Reading → List ℕ → List ℕ → Written → List ℕ → List ℕ → Type 0
-Answered r state lines w s l =
-    (w ≡ slotAnswer r state (length lines)) × ((s ≡ slotState r state (length lines)) × (l ≡ slotBuffer r state lines))
+abbrev pub Answered : Priority → Reading → List ℕ → List ℕ → Written → List ℕ → List ℕ → Type 0
+Answered first r state lines w s l =
+    (w ≡ slotAnswerWith first r state (length lines)) × ((s ≡ slotStateWith first r state (length lines)) × (l ≡ slotBufferWith first r state lines))
 
 -- a choice that is made only where what it chooses is the same
 cond-same {ℓ} : {A : Type ℓ} (b : Bool) (x y z : A) → (b ≡ true → x ≡ y) → cond b x z ≡ cond b y z
@@ -101,12 +103,12 @@ step-first : (a : Stepped) (room : ℕ) → good (roomFault a room .refusal) ≡
 unfolding roomFault
 step-first a room h = or-else-good (a .fault) (roomed (stepLines a) room) h .0
 
-pub answered : (r : Reading) (state lines : List ℕ) (a : Stepped) → Agrees r state a → length state ≡ stateLength
-    → Answered r state lines (stepAnswer a (length lines)) (stepState a state (length lines)) (stepBuffer a lines)
-unfolding slotAnswer slotState slotBuffer stepAnswer stepState stepBuffer
-answered r state lines a g w =
+pub answered : (first : Priority) (r : Reading) (state lines : List ℕ) (a : Stepped) → Agrees first r state a → length state ≡ stateLength
+    → Answered first r state lines (stepAnswer a (length lines)) (stepState a state (length lines)) (stepBuffer a lines)
+unfolding slotAnswerWith slotStateWith slotBufferWith stepAnswer stepState stepBuffer
+answered first r state lines a g w =
     let n = length lines in
-    let l : good (roomFault a n .refusal) ≡ true → stepLines a ≡ slotLines (used (r .set)) state = λ h. sym (g .lines-is (step-first a n h)) in
+    let l : good (roomFault a n .refusal) ≡ true → stepLines a ≡ slotLinesWith first (used (r .set)) state = λ h. sym (g .lines-is (step-first a n h)) in
     rw (g .fault-is n) (
       ap (λ (k : ℕ). written (roomFault a n) k) (cond-same (good (roomFault a n .refusal)) _ _ 0 (λ h. ap (λ (u : List ℕ). length u) (l h))),
       (
@@ -116,11 +118,11 @@ answered r state lines a g w =
     )
 
 -- refused before the step
-pub answered-before : (r : Reading) (state lines : List ℕ) (f : Fault) → f ≡ faultBeforeStep (r .fault) (length state) → good (f .refusal) ≡ false
-    → Answered r state lines (refusedWriting f) state lines
-unfolding slotAnswer slotState slotBuffer
-answered-before r state lines f e h =
-    let s = before-slot r state (length lines) (rw (← e) h) ∙ sym e in
+pub answered-before : (first : Priority) (r : Reading) (state lines : List ℕ) (f : Fault) → f ≡ faultBeforeStep (r .fault) (length state)
+    → good (f .refusal) ≡ false → Answered first r state lines (refusedWriting f) state lines
+unfolding slotAnswerWith slotStateWith slotBufferWith
+answered-before first r state lines f e h =
+    let s = before-slot first r state (length lines) (rw (← e) h) ∙ sym e in
     rw (s, h) (refl, (refl, refl))
 
 -- nothing is refused before the step of the set that was read
@@ -139,6 +141,6 @@ module _ (r : Reading) (state : List ℕ) (f : Fault) (q : PassedBefore r state 
   pub set-passes : PassesIfRead r → good (recordFault (used (r .set)) .refusal) ≡ true
   set-passes p = p (before-good (r .fault) (length state) before-passed .0)
 
-  pub step-answered : (a : Stepped) (lines : List ℕ) → a ≡ stepFor r state
-      → Answered r state lines (stepAnswer a (length lines)) (stepState a state (length lines)) (stepBuffer a lines)
-  step-answered a lines e = answered r state lines a (rw e (agrees r state before-passed (q .bits))) state-whole
+  pub step-answered : (first : Priority) (a : Stepped) (lines : List ℕ) → a ≡ stepFor first r state
+      → Answered first r state lines (stepAnswer a (length lines)) (stepState a state (length lines)) (stepBuffer a lines)
+  step-answered first a lines e = answered first r state lines a (rw e (agrees first r state before-passed (q .bits))) state-whole

@@ -18,6 +18,7 @@ pub use answers::slot_numbers;
 pub use answers::verdict_numbers;
 use model::BoundsAnswer;
 use model::LinesAnswer;
+use model::Order;
 use model::RowsAnswer;
 use model::SlotAnswer;
 use model::SuperframeAnswer;
@@ -66,7 +67,7 @@ pub extern "C" fn rembasuk_slot(text: &[u8], state: &mut [u8], lines: &mut [u8])
     ensures { λ r. ⌜ now (lines .exit) ≡ slotBuffer (readText (now (text .entry))) (now (state .entry)) (now (lines .entry)) ⌝ }
 {
     let reading = text::read(text);
-    let written = slots::slot_of_reading(reading, state, lines);
+    let written = slots::slot_of_reading(Order::Deadline, reading, state, lines);
     slot_numbers(written)
 }
 

@@ -1,8 +1,9 @@
 // One slot for C: what is refused before the step, and the step's answer written into the two lent buffers.
 ghost use mathlib.Core.Path.{_≡_};
 ghost use lib.ListN.{length, take};
-ghost use Rattle.document.specs.Program.{sendLines, slotBuffer, slotState};
-ghost use Rattle.document.specs.ForC.{slotAnswer};
+ghost use Rattle.document.specs.Program.{sendLines, slotBufferWith, slotStateWith};
+ghost use Rattle.document.specs.ForC.{slotAnswerWith};
+ghost use Rattle.document.specs.Machine.{orderOf};
 ghost use Rattle.text.specs.Put.{Put};
 ghost use Rattle.planner.specs.BeforeStep.{PassesIfRead, faultBeforeStep, lengthFault};
 ghost use Rattle.planner.specs.StepWritten.{stepAnswer, stepBuffer, stepState};
@@ -11,6 +12,7 @@ use crate::state_bytes::put_state;
 use crate::state_bytes::state_of;
 use model::ChannelMap;
 use model::Fault;
+use model::Order;
 use model::Reading;
 use model::Refusal;
 use model::Send;
@@ -74,13 +76,13 @@ fn write_step(state: &mut [u8], lines: &mut [u8], stepped: Stepped) -> Written
     }
 }
 
-// One slot of the set that was read, or the refusal before the step. A set that the reader accepts passes the record check, so it is not
+// One slot, in an order of priority, of the set that was read, or the refusal before the step. A set that the reader accepts passes the record check, so it is not
 // checked again.
-pub fn slot_of_reading(reading: Reading, state: &mut [u8], lines: &mut [u8]) -> Written
+pub fn slot_of_reading(by: Order, reading: Reading, state: &mut [u8], lines: &mut [u8]) -> Written
     requires { ⌜ PassesIfRead reading ⌝ }
-    ensures { λ r. ⌜ r ≡ slotAnswer reading (now (state .entry)) (length (now (lines .entry))) ⌝ }
-    ensures { λ r. ⌜ now (state .exit) ≡ slotState reading (now (state .entry)) (length (now (lines .entry))) ⌝ }
-    ensures { λ r. ⌜ now (lines .exit) ≡ slotBuffer reading (now (state .entry)) (now (lines .entry)) ⌝ }
+    ensures { λ r. ⌜ r ≡ slotAnswerWith (orderOf by) reading (now (state .entry)) (length (now (lines .entry))) ⌝ }
+    ensures { λ r. ⌜ now (state .exit) ≡ slotStateWith (orderOf by) reading (now (state .entry)) (length (now (lines .entry))) ⌝ }
+    ensures { λ r. ⌜ now (lines .exit) ≡ slotBufferWith (orderOf by) reading (now (state .entry)) (now (lines .entry)) ⌝ }
 {
     let fault = fault_before_step(reading.fault, state.len());
     if fault.refuses() {
@@ -88,6 +90,6 @@ pub fn slot_of_reading(reading: Reading, state: &mut [u8], lines: &mut [u8]) -> 
     }
     let set = reading.set;
     let st = state_of(state);
-    let stepped = machine::step_accepted(set, st);
+    let stepped = machine::step_accepted(by, set, st);
     write_step(state, lines, stepped)
 }

@@ -74,6 +74,47 @@ module _ {first : Priority} (o : Ordering first) where
         let e = ap (λ (r : Stepped). r .drops) (sym (report-step o s t)) ∙ none-dropped t (omega arith) in
         ap₂ _+_ (run-undropped t (omega arith)) e
 
+-- a record as the code holds it has all the nodes of its routes
+used-whole : (s : FlowSet) → Held s → good (recordFault (used s) .refusal) ≡ true
+    → (k : ℕ) → k < used s .count → length (flowAt (used s) k .route) ≡ flowAt (used s) k .nodes
+used-whole s w g k l =
+    let i : k < s .count = rw (used-count s) at l in
+    let e = used-flow s k i in
+    let n = rw e at (accepted (used s) g .flow k l .nodes-le) in
+    rw (e, length-take) (omega (arith, w .1 k i))
+
+used-bits : (s : FlowSet) → Held s → used s .map .0 < 2 ^ mostChannels
+used-bits s w = rw (used-map s) (w .0)
+
+-- a test whose bounds are kept flow by flow, in every accepted set that it admits
+abbrev pub FlowsKeep : Test → SlotMachine → Type 0
+FlowsKeep test M = (s : FlowSet) → good (recordFault s .refusal) ≡ true → s .map .0 < 2 ^ mostChannels → test .admits s ≡ true
+    → (k n : ℕ) → k < s .count → n ≤ lastSlot → FlowKept M s k (test .bound s k) n
+
+-- So the machine with any order of priority keeps the promise of such a test, and its runs of admitted sets drop nothing. And in every accepted set,
+-- admitted or not, no slot uses a node or a channel twice.
+module _ {first : Priority} (o : Ordering first) where
+  pub flows-promise : (test : Test) → FlowsKeep test (stepWith first) → PromiseOf test (stepWith first)
+  flows-promise test f s w g e n h =
+      let u = used s in
+      let bits = used-bits s w in
+      flows-kept o u g (test .bound u) n h (λ k l. f u g bits e k n l h) bits (used-whole s w g)
+
+  pub flows-run : (test : Test) → FlowsKeep test (stepWith first) → (s : FlowSet) → s .map .0 < 2 ^ mostChannels
+      → good (recordFault (used s) .refusal) ≡ true → test .admits (used s) ≡ true → (n : ℕ) → n ≤ lastSlot → runWith first (used s) n .dropped ≡ 0
+  flows-run test f s w g e n h =
+      let u = used s in
+      run-undropped o u g (test .bound u) n h (λ k l. f u g (rw (used-map s) w) e k n l h) n (le-refl n)
+
+  pub apart-in : (s : FlowSet) → Held s → good (recordFault (used s) .refusal) ≡ true
+      → (t : ℕ) → t < lastSlot → Apart (used s) (report (stepWith first) (used s) t)
+  apart-in s w g = slot-apart o (used s) g (used-bits s w) (used-whole s w g)
+
+-- a test that admits nothing where the set is refused admits accepted sets only
+pub only-good : (admits : Bool → Bool) (b : Bool) → admits false ≡ false → admits b ≡ true → b ≡ true
+only-good admits true z e = refl
+only-good admits false z e = sym z ∙ e
+
 -- the verdicts and the bounds of an accepted set, which nothing refuses
 module _ (s : FlowSet) (g : good (recordFault s .refusal) ≡ true) where
   verdict-good : verdictOf s ≡ verdictIf s true
@@ -121,22 +162,10 @@ module _ (s : FlowSet) (g : good (recordFault s .refusal) ≡ true) where
         let e : valueAt s (reached s .list) k ≡ boundsOf s k .tightened = sym (tight-bound k l) in
         rw e at (between-kept (reached s .list) (reached-between s (accepted-fits s (accepted s g))) k n l h (rw e d))
 
--- a record as the code holds it has all the nodes of its routes
-used-whole : (s : FlowSet) → Held s → good (recordFault (used s) .refusal) ≡ true
-    → (k : ℕ) → k < used s .count → length (flowAt (used s) k .route) ≡ flowAt (used s) k .nodes
-used-whole s w g k l =
-    let i : k < s .count = rw (used-count s) at l in
-    let e = used-flow s k i in
-    let n = rw e at (accepted (used s) g .flow k l .nodes-le) in
-    rw (e, length-take) (omega (arith, w .1 k i))
-
-used-bits : (s : FlowSet) → Held s → used s .map .0 < 2 ^ mostChannels
-used-bits s w = rw (used-map s) (w .0)
-
 -- In every accepted set, admitted or not, no slot uses a node or a channel twice,
 pub apart-always : (s : FlowSet) → Held s → good (recordFault (used s) .refusal) ≡ true
     → (t : ℕ) → t < lastSlot → Apart (used s) (report stepOf (used s) t)
-apart-always s w g = slot-apart deadline-order (used s) g (used-bits s w) (used-whole s w g)
+apart-always = apart-in deadline-order
 
 -- and each flow whose own bound, of either test, is at most its deadline keeps it and loses no packet.
 pub safe-flow : (s : FlowSet) → Held s → good (recordFault (used s) .refusal) ≡ true → (k n : ℕ) → k < used s .count → n ≤ lastSlot
@@ -144,42 +173,26 @@ pub safe-flow : (s : FlowSet) → Held s → good (recordFault (used s) .refusal
     × (boundsOf (used s) k .tightened ≤ deadline (used s) k → FlowKept stepOf (used s) k (boundsOf (used s) k .tightened) n)
 safe-flow s w g k n l h = (basic-flow (used s) g (used-bits s w) k n l h, tight-flow (used s) g (used-bits s w) k n l h)
 
+-- each test flow by flow, where it admits
+basic-flows : FlowsKeep basic stepOf
+basic-flows s g bits e k n l h = basic-flow s g bits k n l h (basic-admits s g e k l)
+
+tight-flows : FlowsKeep tightened stepOf
+tight-flows s g bits e k n l h = tight-flow s g bits k n l h (tight-admits s g e k l)
+
 -- Demand 3, of the machine in the step's contract, with the verdicts and the bounds of theirs.
 pub promise : Promise stepOf
-promise = (
-  λ s w g e n h. kept s w g n h (basic .bound (used s)) (λ k l. safe-flow s w g k n l h .0 (basic-admits (used s) g e k l)),
-  λ s w g e n h. kept s w g n h (tightened .bound (used s)) (λ k l. safe-flow s w g k n l h .1 (tight-admits (used s) g e k l)),
-)
-  where
-    kept : (s : FlowSet) → Held s → good (recordFault (used s) .refusal) ≡ true → (n : ℕ) → n ≤ lastSlot → (bound : ℕ → ℕ)
-        → ((k : ℕ) → k < used s .count → FlowKept stepOf (used s) k (bound k) n) → Kept stepOf (used s) bound n
-    kept s w g n h bound f = flows-kept deadline-order (used s) g bound n h f (used-bits s w) (used-whole s w g)
+promise = (flows-promise deadline-order basic basic-flows, flows-promise deadline-order tightened tight-flows)
 
 -- A run of an admitted set drops nothing: either test admits accepted sets only.
 pub admitted-good : (s : FlowSet) → Admitted s → good (recordFault s .refusal) ≡ true
 unfolding verdictOf
-admitted-good s a = go (good (recordFault s .refusal)) refl a
-  where
-    go : (b : Bool) → good (recordFault s .refusal) ≡ b → Admitted s → b ≡ true
-    go true e a = refl
-    go false e (inl h) = sym (ap (λ (x : Bool). verdictIf s x .basic) e) ∙ h
-    go false e (inr h) = sym (ap (λ (x : Bool). verdictIf s x .tightened) e) ∙ h
+admitted-good s (inl e) = only-good (λ b. verdictIf s b .basic) _ refl e
+admitted-good s (inr e) = only-good (λ b. verdictIf s b .tightened) _ refl e
 
 pub run-keeps : (s : FlowSet) → s .map .0 < 2 ^ mostChannels → Admitted (used s) → (n : ℕ) → n ≤ lastSlot → runOf (used s) n .dropped ≡ 0
-run-keeps s w a n h = go a
-  where
-    u : FlowSet
-    u = used s
-
-    g : good (recordFault u .refusal) ≡ true
-    g = admitted-good u a
-
-    b : u .map .0 < 2 ^ mostChannels
-    b = rw (used-map s) w
-
-    go : Admitted u → runOf u n .dropped ≡ 0
-    go (inl e) = run-undropped deadline-order u g (λ k. boundsOf u k .basic) n h (λ k l. basic-flow u g b k n l h (basic-admits u g e k l)) n (le-refl n)
-    go (inr e) = run-undropped deadline-order u g (λ k. boundsOf u k .tightened) n h (λ k l. tight-flow u g b k n l h (tight-admits u g e k l)) n (le-refl n)
+run-keeps s w (inl e) = flows-run deadline-order basic basic-flows s w (admitted-good (used s) (inl e)) e
+run-keeps s w (inr e) = flows-run deadline-order tightened tight-flows s w (admitted-good (used s) (inr e)) e
 
 -- What a test promises of accepted sets it promises of accepted texts: the reader's record is one as the code holds it.
 pub text-promise : (test : Test) (M : SlotMachine) → PromiseOf test M → TextPromiseOf test M

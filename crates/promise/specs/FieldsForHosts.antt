@@ -16,9 +16,9 @@ use Rattle.model.specs.Limits.{lastSlot}
 use Rattle.document.specs.Reader.{recordFault, readText}
 use Rattle.document.specs.Delay.{boundsFault, boundsIf, boundsOf, verdictOf}
 use Rattle.document.specs.Machine.{badState, stepFault}
-use Rattle.document.specs.Program.{stateLength, stateOf, slotLines, slotFault, refusedLine, mostInput, planText}
+use Rattle.document.specs.Program.{stateLength, stateOf, slotLines, slotFault, slotFaultWith, refusedLine, mostInput, planOf, printText}
 use Rattle.document.specs.Superframe.{flat, superframe, hyper, mostHyper, neitherAdmits, startsLate, sizeFault, superframeFault, sizeAnswer, superframeAnswer, superframeText}
-use Rattle.document.specs.ForC.{verdictOfReading, boundsOfReading, slotAnswer, rowsRead, tableFault, tableAnswer, sizeOfReading, superframeOfReading, verdictForC, boundsForC, slotForC, allBoundsForC, sizeForC, superframeForC}
+use Rattle.document.specs.ForC.{verdictOfReading, boundsOfReading, slotAnswerWith, rowsRead, tableFault, tableAnswer, sizeOfReading, superframeOfReading, verdictForC, boundsForC, slotForCWith, allBoundsForC, sizeForC, superframeForC}
 use Rattle.document.specs.Text.{fields, numbersOf, lineOf}
 use Rattle.document.specs.FieldNamed.{FieldNamed, FieldsForC, ProgramsPrint}
 use Rattle.laws.specs.{Codes.{number-le}, WrittenNumbers.{tens, fields-tabbed, values-back}}
@@ -102,7 +102,7 @@ module _ (text : List ℕ) where
       go false h = h
 
   slot-named : (state : List ℕ) (room : ℕ) → NamedIn text (slotFault (readText text) state room)
-  unfolding slotFault
+  unfolding slotFaultWith
   slot-named state room =
       answered (slotFault (readText text) state room)
       (λ e p. rw e
@@ -131,7 +131,7 @@ module _ (text : List ℕ) where
       (λ e. rw e refl)
 
 pub fields-for-c : (text : List ℕ) → FieldsForC text
-unfolding verdictForC boundsForC slotForC slotAnswer allBoundsForC tableAnswer sizeForC superframeForC
+unfolding verdictForC boundsForC slotForCWith slotAnswerWith allBoundsForC tableAnswer sizeForC superframeForC
 fields-for-c text =
     record {
       verdict = verdict-named text;
@@ -155,11 +155,11 @@ refused-numbers f l w =
     small (suc (suc zero)) = w
     small (suc (suc (suc i))) = omega arith
 
--- both programs print it for a refused text
-plan-refused : (text : List ℕ) → length text ≤ mostInput → good (readText text .fault .refusal) ≡ false
-    → planText text ≡ refusedLine (readText text .fault)
-unfolding planText
-plan-refused text l b = rw (planText, le-ltb mostInput (length text) l, b)
+-- every program prints it for a refused text, whatever it says of sets
+print-refused : (says : FlowSet → List ℕ) (text : List ℕ) → length text ≤ mostInput → good (readText text .fault .refusal) ≡ false
+    → printText says text ≡ refusedLine (readText text .fault)
+unfolding printText
+print-refused says text l b = rw (printText, le-ltb mostInput (length text) l, b)
 
 superframe-refused : (text : List ℕ) → length text ≤ mostInput → good (readText text .fault .refusal) ≡ false
     → superframeText text ≡ refusedLine (readText text .fault)
@@ -171,7 +171,7 @@ unfolding tens
 programs-print text l b =
     let w = field-le text in
     record {
-      plan = ap numbersOf (plan-refused text l b)
+      plan = ap numbersOf (print-refused planOf text l b)
           ∙ refused-numbers (readText text .fault) (omega (arith, read-line-le text)) (omega arith);
-      superframe = ap numbersOf (superframe-refused text l b ∙ sym (plan-refused text l b));
+      superframe = ap numbersOf (superframe-refused text l b ∙ sym (print-refused planOf text l b));
     }

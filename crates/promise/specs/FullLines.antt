@@ -206,9 +206,9 @@ admitted = refl
 text-admitted : verdictOf (setIn crowdedText) .basic ≡ true
 text-admitted = ap (λ (s : FlowSet). verdictOf s .basic) set-is ∙ admitted
 
-run-lines : length (sendLines (sentIn crowdedText 1000000100)) ≡ linesLength
+run-lines : length (sendLines (sentIn ahead crowdedText 1000000100)) ≡ linesLength
 run-lines =
-    full-lines (stateIn crowdedText 1000000100)
+    full-lines (stateIn ahead crowdedText 1000000100)
     (state-slot deadline-order (setIn crowdedText) (text-passes crowdedText read) 1000000100 (omega arith))
 
 pub no-fewer : NoFewer

@@ -2,6 +2,7 @@ pub mod Load
 pub mod Waiting
 pub mod SlotChoice
 pub mod DeadlineOrder
+pub mod Schedule
 pub mod Within
 pub mod Promise
 pub mod Repeated

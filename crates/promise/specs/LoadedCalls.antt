@@ -21,9 +21,10 @@ use Rattle.document.specs.ForC.{superframeForC, superframeOfReading, superframe
 use Rattle.laws.specs.{Accepted.{or-else-good}, SumLaws.{any-none, or-case}, Used.{used-map}, FlatRows.{rows-back}}
 use Rattle.promise.specs.Promise.{Admitted, setIn}
 use Rattle.promise.specs.Repeated.{FromZero, sendOfRow, lineOfRow, rowsOfSlot, loadedNumbers, loaded, RepeatsForC, ProgramPrints}
+use Rattle.promise.specs.DeadlineOrder.{deadline-order}
 use Rattle.promise.specs.EveryTable.{text-repeats}
 use Rattle.promise.specs.TextHeld.{text-held}
-use Rattle.promise.specs.Calls.{calls-keep, reported}
+use Rattle.promise.specs.Calls.{calls-run, reported}
 
 -- a set that is loaded, whatever the room
 pub record Loadable (s : FlowSet) : Type 0 where
@@ -121,12 +122,12 @@ pub repeats-for-c : RepeatsForC
 repeats-for-c text table e lent room t h =
     let read = loads-read text (length table) e in
     let l = set-loadable text read (length table) e in
-    let lines = calls-keep text read lent room (suc t) h .0 .calls t (omega arith) .lines in
+    let lines = calls-run deadline-order text read lent room (suc t) h .calls t (omega arith) .lines in
     let rows = rowsOfSlot (t % hyper (setIn text)) (superframe (setIn text)) in
     let again = text-repeats text read .repeats (l .from-zero) t h .sends in
     let bits : setIn text .map .0 < 2 ^ mostChannels = rw (used-map (readText text .set)) (text-held text read .0) in
     rw (loaded-is text table e, answer-hyper text read (length table) e)
-    (lines ∙ ap sendLines (reported text read t h ∙ again) ∙ rows-lines (setIn text) t rows (omega arith))
+    (lines ∙ ap sendLines (reported deadline-order text read t h ∙ again) ∙ rows-lines (setIn text) t rows (omega arith))
 
 pub program-prints : ProgramPrints
 unfolding superframeText superframeFault

@@ -9,9 +9,9 @@ use Rattle.document.specs.Reader.{recordFault, readText}
 use Rattle.document.specs.Delay.{ways, workAt, verdictOf, boundsOf}
 use Rattle.model.specs.Limits.{mostChannels, mostNodes, lastSlot}
 use Rattle.document.specs.Text.{lines, numbersOf}
-use Rattle.document.specs.Machine.{channels, noSend, release, stepOf, runOf}
-use Rattle.document.specs.Program.{stateLength, stateBytes, sendNumbers, sendLines, slotState, slotBuffer}
-use Rattle.document.specs.ForC.{verdictForC, boundsForC, slotForC}
+use Rattle.document.specs.Machine.{Priority, ahead, channels, noSend, release, stepWith, stepOf, runWith, runOf}
+use Rattle.document.specs.Program.{stateLength, stateBytes, sendNumbers, sendLines, slotStateWith, slotBufferWith}
+use Rattle.document.specs.ForC.{verdictForC, boundsForC, slotForCWith, slotForC}
 
 -- a slot machine answers a set and a state by a step
 abbrev pub SlotMachine : Type 0
@@ -107,19 +107,19 @@ linesLength = mostChannels * lineLength
 abbrev pub setIn : List ℕ → FlowSet
 setIn text = used (readText text .set)
 
--- A host keeps 68 bytes, at first zeros, and calls once a slot on what the call before left there. Call t is lent the buffer `lent t`, whatever
--- it holds. These are the 68 bytes before call t,
-unfoldable pub bytesAt : List ℕ → (ℕ → List ℕ) → ℕ → List ℕ
-bytesAt text lent zero = replicate stateLength 0
-bytesAt text lent (suc t) = slotState (readText text) (bytesAt text lent t) (length (lent t))
+-- A host keeps 68 bytes, at first zeros, and calls once a slot, of a machine with some order of priority, on what the call before left there. Call t
+-- is lent the buffer `lent t`, whatever it holds. These are the 68 bytes before call t,
+unfoldable pub bytesAt : Priority → List ℕ → (ℕ → List ℕ) → ℕ → List ℕ
+bytesAt first text lent zero = replicate stateLength 0
+bytesAt first text lent (suc t) = slotStateWith first (readText text) (bytesAt first text lent t) (length (lent t))
 
 -- this is what call t answers,
-abbrev pub answerAt : List ℕ → (ℕ → List ℕ) → ℕ → SlotAnswer
-answerAt text lent t = slotForC text (bytesAt text lent t) (length (lent t))
+abbrev pub answerAt : Priority → List ℕ → (ℕ → List ℕ) → ℕ → SlotAnswer
+answerAt first text lent t = slotForCWith first text (bytesAt first text lent t) (length (lent t))
 
 -- and this its buffer afterwards.
-abbrev pub bufferAt : List ℕ → (ℕ → List ℕ) → ℕ → List ℕ
-bufferAt text lent t = slotBuffer (readText text) (bytesAt text lent t) (lent t)
+abbrev pub bufferAt : Priority → List ℕ → (ℕ → List ℕ) → ℕ → List ℕ
+bufferAt first text lent t = slotBufferWith first (readText text) (bytesAt first text lent t) (lent t)
 
 -- the numbers of each line, as document 01 parts lines and fields and reads numbers
 abbrev pub numbersIn : List ℕ → List (List ℕ)
@@ -131,27 +131,31 @@ sendsOf r = take (r .sends) (r .sent)
 
 -- Call t gives the report r. It is not refused and leaves r's next state; of its buffer as many bytes as it answers are the `send` lines of r, at
 -- most 576, and the further ones stay. Read line by line, those bytes have the slot, flow, ends, try and channel of each transmission.
-pub record Gives (text : List ℕ) (lent : ℕ → List ℕ) (t : ℕ) (r : Stepped) : Type 0 where
-  pub fault : (answerAt text lent t .refusal ≡ 0) × (answerAt text lent t .line ≡ 0)
-  pub next : bytesAt text lent (suc t) ≡ stateBytes (r .next)
-  pub most : answerAt text lent t .length ≤ linesLength
-  pub lines : take (answerAt text lent t .length) (bufferAt text lent t) ≡ sendLines (sendsOf r)
-  pub further : drop (answerAt text lent t .length) (bufferAt text lent t) ≡ drop (answerAt text lent t .length) (lent t)
-  pub numbers : numbersIn (take (answerAt text lent t .length) (bufferAt text lent t)) ≡ map sendNumbers (sendsOf r)
+pub record Gives (first : Priority) (text : List ℕ) (lent : ℕ → List ℕ) (t : ℕ) (r : Stepped) : Type 0 where
+  pub fault : (answerAt first text lent t .refusal ≡ 0) × (answerAt first text lent t .line ≡ 0)
+  pub next : bytesAt first text lent (suc t) ≡ stateBytes (r .next)
+  pub most : answerAt first text lent t .length ≤ linesLength
+  pub lines : take (answerAt first text lent t .length) (bufferAt first text lent t) ≡ sendLines (sendsOf r)
+  pub further : drop (answerAt first text lent t .length) (bufferAt first text lent t) ≡ drop (answerAt first text lent t .length) (lent t)
+  pub numbers : numbersIn (take (answerAt first text lent t .length) (bufferAt first text lent t)) ≡ map sendNumbers (sendsOf r)
 
 -- n calls are the first n slots of the machine's run: the 68 bytes are its state, and each call gives its slot's report.
-pub record Runs (text : List ℕ) (lent : ℕ → List ℕ) (n : ℕ) : Type 0 where
-  pub state : bytesAt text lent n ≡ stateBytes (runOf (setIn text) n .last)
-  pub calls : (t : ℕ) → t < n → Gives text lent t (report stepOf (setIn text) t)
+pub record Runs (first : Priority) (text : List ℕ) (lent : ℕ → List ℕ) (n : ℕ) : Type 0 where
+  pub state : bytesAt first text lent n ≡ stateBytes (runWith first (setIn text) n .last)
+  pub calls : (t : ℕ) → t < n → Gives first text lent t (report (stepWith first) (setIn text) t)
 
--- Demand 3 for C: of every text that the reader accepts, with 576 bytes or more lent to each call. Where the verdict answers 1 for a test, the run
--- whose lines the calls give keeps the bounds that the bounds' call answers.
-abbrev pub PromiseForC : Type 0
-PromiseForC = (text : List ℕ) → good (readText text .fault .refusal) ≡ true
+-- The promise of one test for C, by what C is answered: whether the test admits, and the bound of a flow. Of every text that the reader accepts,
+-- with 576 bytes or more lent to each call; where the test answers 1, the run whose lines the calls give keeps the bounds.
+abbrev pub PromiseForCOf : Priority → (admits : List ℕ → ℕ) → (bound : List ℕ → ℕ → ℕ) → Type 0
+PromiseForCOf first admits bound = (text : List ℕ) → good (readText text .fault .refusal) ≡ true
     → (lent : ℕ → List ℕ) → ((t : ℕ) → linesLength ≤ length (lent t)) → (n : ℕ) → n ≤ lastSlot
-    → Runs text lent n
-    × (verdictForC text .basic ≡ 1 → Kept stepOf (setIn text) (λ k. boundsForC text k .basic) n)
-    × (verdictForC text .tightened ≡ 1 → Kept stepOf (setIn text) (λ k. boundsForC text k .tightened) n)
+    → Runs first text lent n × (admits text ≡ 1 → Kept (stepWith first) (setIn text) (bound text) n)
+
+-- Demand 3 for C: of both tests, by the verdict's and the bounds' call.
+abbrev pub PromiseForC : Type 0
+PromiseForC =
+    PromiseForCOf ahead (λ text. verdictForC text .basic) (λ text k. boundsForC text k .basic)
+    × PromiseForCOf ahead (λ text. verdictForC text .tightened) (λ text k. boundsForC text k .tightened)
 
 -- The lines tell the transmissions: where two slots of accepted texts have equal bytes, slot, flow, ends, try and channel of each are equal.
 abbrev pub linesIn : List ℕ → ℕ → List ℕ

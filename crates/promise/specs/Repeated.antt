@@ -8,7 +8,7 @@ use Rattle.model.specs.{Refusals.{good}, Limits.{mostChannels, lastSlot}, Sums.
 use Rattle.document.specs.Text.{lineOf}
 use Rattle.document.specs.Reader.{recordFault, readText}
 use Rattle.document.specs.Delay.{ways, period, workAt}
-use Rattle.document.specs.Machine.{linkOf, tryOf, radioChannel, sendsAt, noSend, filled, runOf, stepOf}
+use Rattle.document.specs.Machine.{ahead, linkOf, tryOf, radioChannel, sendsAt, noSend, filled, runOf, stepOf}
 use Rattle.document.specs.Program.{mostInput, sendWord}
 use Rattle.document.specs.Superframe.{hyper, superframe, flat, rising, rowsOf, rowLines, superframeText, readTableInto, writeTableInto}
 use Rattle.document.specs.ForC.{superframeForC, superframeAfter, channelForC, readTableForC, writeTableForC}
@@ -127,7 +127,7 @@ linesByTable text table t =
 abbrev pub RepeatsForC : Type 0
 RepeatsForC = (text table : List ℕ) → superframeForC text (length table) .refusal ≡ 0
     → (lent : ℕ → List ℕ) → ((t : ℕ) → linesLength ≤ length (lent t)) → (t : ℕ) → t < lastSlot
-    → take (answerAt text lent t .length) (bufferAt text lent t) ≡ linesByTable text table t
+    → take (answerAt ahead text lent t .length) (bufferAt ahead text lent t) ≡ linesByTable text table t
 
 abbrev pub ProgramPrints : Type 0
 ProgramPrints = (text table : List ℕ) → superframeForC text (length table) .refusal ≡ 0 → length text ≤ mostInput

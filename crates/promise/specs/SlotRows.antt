@@ -18,7 +18,7 @@ use Rattle.model.specs.Sums.{sumTo}
 use Rattle.document.specs.Reader.{recordFault}
 use Rattle.document.specs.Delay.{ways}
 use Rattle.document.specs.Machine.{hadAt, placedAt, runOf}
-use Rattle.document.specs.Superframe.{rowsFrom, rowsAt, rowsTo, above, risingFrom}
+use Rattle.document.specs.Superframe.{rowsFrom, rowsAt, rowsTo, rowsToWith, above, risingFrom}
 use Rattle.laws.specs.SumLaws.{sum-le, sum-const, and-l, and-r, and-i, or-l}
 use Rattle.promise.specs.Repeated.{slotOf, offsetOf, rowsOfSlot}
 use Rattle.promise.specs.DeadlineOrder.{deadline-order}
@@ -103,7 +103,7 @@ module _ (s : FlowSet) (st : State) where
 
 -- as many rows as flows are placed in these slots
 pub table-rows : (s : FlowSet) (n : ℕ) → length (rowsTo s n) ≡ sumTo (λ t. length (placedAt s (runOf s t .last))) n
-unfolding rowsTo sumTo
+unfolding rowsToWith sumTo
 table-rows s zero = refl
 table-rows s (suc n) =
     let st = runOf s n .last in
@@ -126,14 +126,14 @@ module _ (s : FlowSet) (g : good (recordFault s .refusal) ≡ true) where
 
   -- none of them is of slot n or later,
   pub no-rows : (u n : ℕ) → n ≤ u → rowsOfSlot u (rowsTo s n) ≡ []
-  unfolding rowsTo rowsOfSlot
+  unfolding rowsToWith rowsOfSlot
   no-rows u zero l = refl
   no-rows u (suc n) l =
       slot-append u (rowsTo s n) (rowsAt s (runOf s n .last)) ∙ ap₂ _++_ (no-rows u n (omega arith)) (added-none u n (λ e. omega arith))
 
   -- and those of an earlier slot are what the run places in it
   pub rows-of-slot : (u n : ℕ) → u < n → u < lastSlot → rowsOfSlot u (rowsTo s n) ≡ rowsAt s (runOf s u .last)
-  unfolding rowsTo
+  unfolding rowsToWith
   rows-of-slot u zero l h = absurd (omega arith)
   rows-of-slot u (suc n) l h =
       slot-append u (rowsTo s n) (rowsAt s (runOf s n .last))

@@ -28,7 +28,7 @@ use Rattle.promise.specs.Promise.{Admitted}
 use Rattle.promise.specs.Repeated.{rowCount}
 use Rattle.promise.specs.Shifts.{AllFromZero}
 use Rattle.promise.specs.DeadlineOrder.{deadline-order}
-use Rattle.promise.specs.Within.{numbered}
+use Rattle.promise.specs.Schedule.{numbered}
 use Rattle.promise.specs.RunStates.{choice}
 use Rattle.promise.specs.Timetable.{placedIn, timetable}
 use Rattle.promise.specs.Reports.{memb-place}

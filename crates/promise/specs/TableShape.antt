@@ -15,7 +15,7 @@ use Rattle.model.specs.Refusals.{good}
 use Rattle.document.specs.Reader.{recordFault}
 use Rattle.document.specs.Delay.{ways, workAt}
 use Rattle.document.specs.Machine.{placedAt, runOf}
-use Rattle.document.specs.Superframe.{rowsAt, rowsTo, above, risingFrom, rising}
+use Rattle.document.specs.Superframe.{rowsAt, rowsTo, rowsToWith, above, risingFrom, rising}
 use Rattle.laws.specs.Members.{memb-at}
 use Rattle.promise.specs.Repeated.{slotOf, flowOf, numberOf, offsetOf, rowsOfSlot, Shaped}
 use Rattle.promise.specs.DeadlineOrder.{deadline-order}
@@ -52,7 +52,7 @@ module _ (s : FlowSet) (g : good (recordFault s .refusal) ≡ true) where
   slot-eq = state-slot deadline-order s g
 
   all-rows : (n : ℕ) → n ≤ lastSlot → Each (RowBelow s n) (rowsTo s n)
-  unfolding rowsTo
+  unfolding rowsToWith
   all-rows zero h i l = absurd (omega arith)
   all-rows (suc n) h i l =
       each-append (RowBelow s (suc n)) (rowsTo s n) (rowsAt s (runOf s n .last)) (λ j k. row-more s n _ (all-rows n (omega arith) j k))
@@ -60,7 +60,7 @@ module _ (s : FlowSet) (g : good (recordFault s .refusal) ≡ true) where
 
   -- every row of slot n is above the rows of the first n
   all-rise : (n : ℕ) → n ≤ lastSlot → rising (rowsTo s n) ≡ true
-  unfolding rowsTo risingFrom above
+  unfolding rowsToWith risingFrom above
   all-rise zero h = refl
   all-rise (suc n) h =
       rising-append Under [] (rowsTo s n) (rowsAt s st) (all-rise n (omega arith)) (λ r e. refl) under

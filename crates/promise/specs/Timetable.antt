@@ -25,7 +25,7 @@ use Rattle.laws.specs.SumLaws.{count, sum-ext, sum-const, sum-split}
 use Rattle.laws.specs.Accepted.{Accepted, accepted, ones-pos}
 use Rattle.laws.specs.Members.{memb-empty, memb-tail, memb-case, memb-head, one-of, some-of}
 use Rattle.promise.specs.Load as load
-use Rattle.promise.specs.Within.{HasReady, Schedule, Urgent, equationValue, others}
+use Rattle.promise.specs.{Schedule.{HasReady, Schedule, others}, Within.{Urgent, equationValue}}
 use Rattle.promise.specs.SlotChoice.{Ordering}
 use Rattle.promise.specs.DeadlineOrder.{deadline-order, due-le}
 use Rattle.promise.specs.RunStates.{stateAt, choice, ready-case, ready-when, state-slot, count-next}

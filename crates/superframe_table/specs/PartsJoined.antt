@@ -12,9 +12,9 @@ use Rattle.model.specs.Limits.{lastSlot}
 use Rattle.model.specs.Refusals.{good}
 use Rattle.model.specs.Sets.{freshState}
 use Rattle.document.specs.Reader.{recordFault}
-use Rattle.document.specs.Machine.{runOf, runWith, stepOf}
-use Rattle.document.specs.Superframe.{rowLines, rowsAt, rowsTo}
-use Rattle.machine.specs.States.{run-good, good-not-bad, step-no-fault}
+use Rattle.document.specs.Machine.{ahead, runOf, runWith, stepOf}
+use Rattle.document.specs.Superframe.{rowLines, rowsAt, rowsTo, rowsToWith}
+use Rattle.machine.specs.States.{run-with-good, good-not-bad, step-no-fault}
 use Rattle.text.specs.WrittenRows.{lines-append}
 use Rattle.superframe_table.specs.Parts.{slotRows, stateAfter, rowsMore, mostSlot, partSlots, partText, partsState, partsText}
 
@@ -35,12 +35,12 @@ module _ (s : FlowSet) (g : good (recordFault s .refusal) ≡ true) where
   run-rows : (t : ℕ) → t < lastSlot → slotRows s (runOf s t .last) ≡ rowsAt s (runOf s t .last)
   unfolding slotRows
   run-rows t h =
-      let r = run-good s g t (omega arith) in
+      let r = run-with-good ahead s g t (omega arith) in
       rw (step-no-fault s (runOf s t .last) g (good-not-bad s (runOf s t .last) (r .good-last)) (omega (arith, r .slot-is)))
 
   -- the table of a + b slots is that of a, and then the rows of b slots from there
   pub rows-more : (a b : ℕ) → a + b ≤ lastSlot → rowsTo s (a + b) ≡ rowsTo s a ++ rowsMore s (runOf s a .last) b
-  unfolding rowsTo rowsMore
+  unfolding rowsToWith rowsMore
   rows-more a zero h = rw (add-zero a) (sym (append-nil (rowsTo s a)))
   rows-more a (suc b) h =
       rw (add-suc a b, run-after s a b, run-rows (a + b) (omega arith), rows-more a b (omega arith))
@@ -54,10 +54,10 @@ module _ (s : FlowSet) (g : good (recordFault s .refusal) ≡ true) where
 
   module _ (h : ℕ) (l : h ≤ lastSlot) where
     slot-of : (st : State) (bytes : List ℕ) (t : ℕ) → PartsTo h st bytes t → st .slot .0 ≡ t
-    slot-of st bytes t p = ap (λ (x : State). x .slot .0) (p .state) ∙ run-good s g t (omega (arith, p .within)) .slot-is
+    slot-of st bytes t p = ap (λ (x : State). x .slot .0) (p .state) ∙ run-with-good ahead s g t (omega (arith, p .within)) .slot-is
 
     parts-start : PartsTo h freshState [] 0
-    unfolding rowsTo rowLines runWith
+    unfolding rowsToWith rowLines runWith
     parts-start = record { state = refl; text = refl; within = omega arith }
 
     parts-step : (st : State) (bytes : List ℕ) (t : ℕ) → PartsTo h st bytes t → (n : ℕ) → t + n ≤ h

@@ -23,7 +23,7 @@ use Rattle.document.specs.Superframe.{atStart, rowLine, rowLines, rowsFrom, row
 use Rattle.laws.specs.{Accepted.{accepted, or-else-good, work-small}, Members.{memb-head, memb-tail}, Padded.{take-filled}, Used.{used-map}, WrittenNumbers.{decimal-length, tens}}
 use Rattle.promise.specs.{RunStates.{next-count, ready-case}, DeadlineOrder.{deadline-order}}
 use Rattle.text.specs.{Decimals.{decimal-most}, Lengths.{put-length, put-start}, Put.{Put, lastPlace}, WrittenRows.{line-size, lines-append}}
-use Rattle.machine.specs.{PlacedChoice.{placed-le, placed-ready}, SlotAnswers.{count-after}, StepLines.{sends-few}}
+use Rattle.machine.specs.{PlacedChoice.{placed-le, placed-ready}, SlotAnswers.{count-after}, StepLines.{sends-with-few}}
 use Rattle.superframe_table.specs.declared.parts.Part.{Part}
 use Rattle.superframe_table.specs.Parts.{sendRow, sentRows, slotRows, stateAfter, rowsMore, partOf, partSlots, partText, mostSlot}
 
@@ -85,7 +85,7 @@ module _ (s : FlowSet) (m : s .map .0 < 65536) (st : State) where
   few-sends a e = go (good (stepFault (used s) st .refusal)) refl
     where
       go : (b : Bool) → good (stepFault (used s) st .refusal) ≡ b → a .sends ≤ mostChannels
-      go true h = rw (e ∙ step-is true h) (sends-few s st m)
+      go true h = rw (e ∙ step-is true h) (sends-with-few ahead s st m)
       go false h = rw (e ∙ step-is false h) zero-le
 
   slot-rows : (a : Stepped) → a ≡ stepOf (used s) st → sentRows a ≡ slotRows (used s) st
@@ -95,7 +95,7 @@ module _ (s : FlowSet) (m : s .map .0 < 65536) (st : State) where
       go : (b : Bool) → good (stepFault (used s) st .refusal) ≡ b → sentRows a ≡ cond b (rowsAt (used s) st) []
       go true h =
           ap sentRows (e ∙ step-is true h)
-          ∙ ap (λ (l : List Send). map (sendRow (nextState (used s) st)) l) (take-filled mostChannels noSend (sendsAt (used s) st) (sends-few s st m))
+          ∙ ap (λ (l : List Send). map (sendRow (nextState (used s) st)) l) (take-filled mostChannels noSend (sendsAt (used s) st) (sends-with-few ahead s st m))
           ∙ rows-of-sends (used s) st (accepted (used s) (set-good h) .count-le) 0 (placedAt (used s) st) (λ k i. i)
       go false h = ap sentRows (e ∙ step-is false h)
 

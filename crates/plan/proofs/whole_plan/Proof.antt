@@ -8,14 +8,14 @@ use borrow.Author.Tests.{le-ltb}
 use lib.ListN.{length, take, drop}
 use lib.Seq.{take-at}
 use Rattle.model.specs.declared.answers.Written.{Written}
-use Rattle.document.specs.Program.{planText, planInto}
+use Rattle.document.specs.Program.{planText, planInto, printInto}
 use Rattle.plan_text.specs.PlanInBuffer.{plan-fits, text-le}
 use Rattle.plan_text.specs.PlanOfReading.{mostPlan}
 use Rattle.plan.proofs.whole_plan.Statement.{statement}
 use Rattle.plan.proofs.whole_plan.Tie as tie
 
 begins : (input out : List ℕ) → mostPlan ≤ length out → take (length (planText input)) (planInto input out) ≡ planText input
-unfolding planInto
+unfolding printInto
 begins input out h =
     rw (le-ltb (length out) (length (planText input)) (omega (arith, text-le input)))
     (take-at (planText input) (drop (length (planText input)) out) (length (planText input)) refl)

@@ -3,7 +3,8 @@ use mathlib.Core.Path.{ap, _∙_}
 use lib.ListN.{length}
 use Rattle.model.specs.declared.answers.Reading.{Reading}
 use Rattle.document.specs.Program.{slotState, slotBuffer}
-use Rattle.document.specs.ForC.{slotAnswer, slotForC, slotNumbers}
+use Rattle.document.specs.ForC.{slotAnswerWith, slotForCWith, slotNumbers}
+use Rattle.document.specs.Machine.{ahead}
 use Rattle.promise.specs.TextHeld.{text-passes}
 use borrow.Author.Needs.{needs}
 use Rattle.planner.proofs.rembasuk_slot.Statement.{statement}
@@ -15,7 +16,7 @@ slot-of-reading-requires c κs =
     rw (o .read .ensures .0) (text-passes (o .before .before .before .before .args .text .now))
 
 returns : tie.Need-returns
-unfolding slotForC
+unfolding slotForCWith
 returns c =
     let s = c .before .before .before .before .before in
     let o = s .before .before .before in
@@ -23,7 +24,7 @@ returns c =
     let w = s .slot-of-reading .ensures in
     let r = o .read .ensures .0 in
     let room = length (a .lines .now) in (
-      c .slot-numbers .ensures ∙ ap slotNumbers (w .0 ∙ ap (λ (x : Reading). slotAnswer x (a .state .now) room) r),
+      c .slot-numbers .ensures ∙ ap slotNumbers (w .0 ∙ ap (λ (x : Reading). slotAnswerWith ahead x (a .state .now) room) r),
       (
         w .1 .0 ∙ ap (λ (x : Reading). slotState x (a .state .now) room) r,
         w .1 .1 ∙ ap (λ (x : Reading). slotBuffer x (a .state .now) (a .lines .now)) r,

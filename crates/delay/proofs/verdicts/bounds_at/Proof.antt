@@ -45,7 +45,7 @@ returns c =
     let small = le-trans (le-of-eq (j .tights k)) (j .small k) in
     let e : min t 2147483647 ≡ t = omega arith in
     bounds-made s k _ _ _ _ _ _
-    (fault-given s (b .args .t3) j (b .pre .0))
+    (j .fault ∙ fault-given s (b .pre .0))
     (w .work .ensures ∙ sym (ap work u))
     (basic-entry s (b .args .t3) j (b .pre .0) k h)
     (tight-entry s (b .args .t3) j (b .pre .0) k h)

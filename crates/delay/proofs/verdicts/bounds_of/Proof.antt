@@ -11,14 +11,14 @@ use Rattle.delay.proofs.verdicts.bounds_of.Tie as tie
 
 -- past the first test the record check has passed
 passed : (c : tie.Else1) → good (recordFault (used (c .before .before .before .args .s)) .refusal) ≡ true
-passed c = let b = c .before .before .before in passed-by _ (b .args .all) _ (b .pre) (c .before .refuses .ensures) (c .if1 .left)
+passed c = let b = c .before .before .before in passed-by _ _ _ (b .pre .fault) (c .before .refuses .ensures) (c .if1 .left)
 
 returns : tie.Need-returns
 returns c =
     let b = c .before .before .before .before in
     let u = used (b .args .s) in
-    let e = refused-by u (b .args .all) _ (b .pre) (c .before .before .refuses .ensures) (c .before .if1 .taken) in
-    c .refused .ensures ∙ bounds-refused u (b .args .k) _ e (fault-refused u (b .args .all) (b .pre) e)
+    let e = refused-by u _ _ (b .pre .fault) (c .before .before .refuses .ensures) (c .before .if1 .taken) in
+    c .refused .ensures ∙ bounds-refused u (b .args .k) _ e (b .pre .fault ∙ fault-refused u e)
 
 returns-2 : tie.Need-returns-2
 unfolding used

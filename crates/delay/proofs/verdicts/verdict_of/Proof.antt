@@ -12,13 +12,13 @@ use Rattle.delay.proofs.verdicts.verdict_of.Tie as tie
 
 -- past the test the record check has passed
 passed : (c : tie.Else1) → good (recordFault (used (c .before .before .before .args .s)) .refusal) ≡ true
-passed c = let b = c .before .before .before in passed-by _ (b .args .all) _ (b .pre) (c .before .refuses .ensures) (c .if1 .left)
+passed c = let b = c .before .before .before in passed-by _ _ _ (b .pre .fault) (c .before .refuses .ensures) (c .if1 .left)
 
 returns : tie.Need-returns
 returns c =
     let b = c .before .before .before .before in
-    let e = refused-by _ (b .args .all) _ (b .pre) (c .before .before .refuses .ensures) (c .before .if1 .taken) in
-    c .refused .ensures ∙ verdict-refused _ (b .args .all) (b .pre) e
+    let e = refused-by _ _ _ (b .pre .fault) (c .before .before .refuses .ensures) (c .before .if1 .taken) in
+    c .refused .ensures ∙ verdict-refused _ _ (b .pre .fault) e
 
 admits-requires : tie.Need-admits-requires
 unfolding used

@@ -21,7 +21,7 @@ returns c =
 returns-2 : tie.Need-returns-2
 returns-2 c =
     let r = c .before .before .before .before .release .ensures in
-    let l = c .order-ready .ensures in
+    let l = c .line-up .ensures in
     record { released = r .0; soon = r .1; in-order = (_, l .in-order, λ k b e. e); long-order = l .long; few = l .few }
 
 pub release-packets-spec : {M : Type 1} → statement M

@@ -16,28 +16,28 @@ use Rattle.machine.proofs.runs.run_all_slots.Statement.{statement}
 use Rattle.machine.proofs.runs.run_all_slots.Tie as tie
 
 abbrev Inv-loop : tie.InvT-loop
-Inv-loop slots count ways start period deadline work tries routes due₀ next₀ sent₀ order₀ put table₀ chosen₀ soonest₀ waiting₀
+Inv-loop by slots count ways start period deadline work tries routes due₀ next₀ sent₀ order₀ put table₀ chosen₀ soonest₀ waiting₀
     delivered₀ dropped₀ at₀ t₀ due next sent order table chosen soonest waiting delivered dropped at t =
     let numbers = numbersOf start period deadline work in
     let links = linksOf tries routes in
     let run₀ = runArraysOf due₀ next₀ sent₀ order₀ 0 0 in
     let run = runArraysOf due next sent order (soonest .0) waiting in
     SoFar slots
-    (λ i. RunOfSome count ways i numbers links run
-    × ((s : FlowSet) (fault : Fault) → RunSoFar s fault count ways 0 (countsOf 0 0) numbers links run₀
-    → RunSoFar s fault count ways i (countsOf delivered dropped) numbers links run)
-    × (put ≡ true → (s : FlowSet) (fault : Fault) → RunSoFar s fault count ways 0 (countsOf 0 0) numbers links run₀ → RowsSoFar s i at table₀ table)
+    (λ i. RunOfSome by count ways i numbers links run
+    × ((s : FlowSet) (fault : Fault) → RunSoFar by s fault count ways 0 (countsOf 0 0) numbers links run₀
+    → RunSoFar by s fault count ways i (countsOf delivered dropped) numbers links run)
+    × (put ≡ true → (s : FlowSet) (fault : Fault) → RunSoFar by s fault count ways 0 (countsOf 0 0) numbers links run₀ → RowsSoFar by s i at table₀ table)
     × (delivered ≤ 4294967295 * i) × (dropped ≤ 4294967295 * i) × PerPlaced chosen × (length table ≡ length table₀) × (at ≤ length table))
     t
 
 abbrev μ-loop : tie.MeasureT-loop
-μ-loop slots count ways start period deadline work tries routes due₀ next₀ sent₀ order₀ put table₀ chosen₀ soonest₀ waiting₀
+μ-loop by slots count ways start period deadline work tries routes due₀ next₀ sent₀ order₀ put table₀ chosen₀ soonest₀ waiting₀
     delivered₀ dropped₀ at₀ t₀ due next sent order table chosen soonest waiting delivered dropped at t =
     slots - t
 
 loop-holds : tie.Need-loop-holds Inv-loop μ-loop
 loop-holds c =
-    begins (c .before .pre .0 .1, (λ s fault u. u), (λ e s fault u. no-rows s _), search needs, search needs, refl, refl, zero-le)
+    begins (c .before .pre .0 .1, (λ s fault u. u), (λ e s fault u. no-rows _ s _), search needs, search needs, refl, refl, zero-le)
 
 -- the loop at slot t, and what was given
 abbrev looked : tie.After-run-slot Inv-loop μ-loop → tie.In-loop Inv-loop μ-loop
@@ -70,7 +70,7 @@ slot-fits c y =
     let u = h .1 _ _ (f .run-so-far) in
     let w = h .2 y _ _ (f .run-so-far) in (
       omega (arith, f .small, l),
-      rows-fit _ _ _ _ _ _ (u .ran) _ _ _ (g .run-slot .ensures _ _ _ u .1) _ _ _ w _ (length (v .table)) l (omega (arith, f .fits, h .6)),
+      rows-fit _ _ _ _ _ _ _ (u .ran) _ _ _ (g .run-slot .ensures _ _ _ u .1) _ _ _ w _ (length (v .table)) l (omega (arith, f .fits, h .6)),
     )
 
 put-rows-requires : tie.Need-put-rows-requires Inv-loop μ-loop
@@ -80,14 +80,14 @@ put-rows-requires c κs =
     let v = looked g .before .loop in
     let h = v .inv .holds in
     let n = h .0 .run-so-far in
-    rows-if-put _ _ _ _ _ (g .run-slot .ensures _ _ (h .0 .counts) n .1) (n .set-numbers .good-set) (given (looked g) .args .put) (v .t) _ (v .at)
+    rows-if-put _ _ _ _ _ _ (g .run-slot .ensures _ _ (h .0 .counts) n .1) (n .set-numbers .good-set) (given (looked g) .args .put) (v .t) _ (v .at)
     (length (v .table)) (r .rows-of .ensures) (h .7) (slot-fits r)
 
 -- a set's run before its first slot
 abbrev Begins : tie.Start Inv-loop μ-loop → FlowSet → Fault → Type 0
 Begins c s fault =
     let a = c .args in
-    RunSoFar s fault (a .count) (a .ways) 0 (countsOf 0 0) (numbersOf (a .start .now) (a .period .now) (a .deadline .now) (a .work .now))
+    RunSoFar (a .by) s fault (a .count) (a .ways) 0 (countsOf 0 0) (numbersOf (a .start .now) (a .period .now) (a .deadline .now) (a .work .now))
     (linksOf (a .tries .now) (a .routes .now)) (runArraysOf (a .due .now) (a .next .now) (a .sent .now) (a .order .now) 0 0)
 
 -- the loop at the slot whose rows are put
@@ -97,7 +97,7 @@ at-slot c = looked (ran (c .before .before .before .before))
 -- the slot's rows stand behind those before it
 rows-on : (c : tie.After-put-rows Inv-loop μ-loop) → let i = at-slot c in
     given i .args .put ≡ true → (s : FlowSet) (fault : Fault) → Begins (given i) s fault
-    → RowsSoFar s (i .before .loop .t + 1) (c .put-rows .result) (given i .args .table .now) (c .put-rows .last .1 .1 .1 .1 .1 .0)
+    → RowsSoFar (given i .args .by) s (i .before .loop .t + 1) (c .put-rows .result) (given i .args .table .now) (c .put-rows .last .1 .1 .1 .1 .1 .0)
 rows-on c y s fault b =
     let r = c .before .before .before .before in
     let i = at-slot c in
@@ -105,7 +105,7 @@ rows-on c y s fault b =
     let u = h .1 s fault b in
     let e = ran r .run-slot .ensures s fault _ u in
     let o = c .put-rows .ensures in
-    rows-more s fault _ _ _ _ (u .ran) _ _ _ (e .1) _ _ _ (h .2 y s fault b) _ _ _ (all-put (given i .args .put) _ _ (r .rows-of .ensures) y) (o .0) (o .1)
+    rows-more _ s fault _ _ _ _ (u .ran) _ _ _ (e .1) _ _ _ (h .2 y s fault b) _ _ _ (all-put (given i .args .put) _ _ (r .rows-of .ensures) y) (o .0) (o .1)
 
 -- a slot's counts are 32-bit numbers
 counts-small : (c : tie.After-run-slot Inv-loop μ-loop) → (c .run-slot .result .delivered ≤ 4294967295) × (c .run-slot .result .dropped ≤ 4294967295)

@@ -5,7 +5,8 @@ use lib.ListN.{replicate}
 use Rattle.model.specs.Limits.{mostChannels, mostFlows}
 use Rattle.model.specs.Sets.{used}
 use Rattle.document.specs.Reader.{recordFault}
-use Rattle.document.specs.Superframe.{flat, rowsTo}
+use Rattle.document.specs.Machine.{orderOf}
+use Rattle.document.specs.Superframe.{flat, rowsToWith}
 use Rattle.machine.specs.LentArrays.{linksOf, numbersOf, runArraysOf}
 use Rattle.machine.specs.PacketNumbers.{accepted-count}
 use Rattle.machine.specs.RunSoFar.{RunSoFar, countsOf, run-before-first}
@@ -28,14 +29,14 @@ given c = c .before .before .before .before .before .before
 
 -- the run before its first slot
 begun : (c : tie.After-deadlines-in) → let a = given c .args in
-    RunSoFar (a .s) (recordFault (used (a .s))) (a .s .count) (c .before .before .ways .result) 0 (countsOf 0 0)
+    RunSoFar (a .by) (a .s) (recordFault (used (a .s))) (a .s .count) (c .before .before .ways .result) 0 (countsOf 0 0)
     (numbersOf (a .start .now) (a .period .now) (a .deadline .now) (a .work .now)) (linksOf (a .tries .now) (a .routes .now))
     (runArraysOf (c .deadlines-in .last .1 .1 .1 .1 .1 .0) (a .start .now) (replicate mostFlows 0) (replicate mostFlows 0) 0 0)
 begun c =
     let s = given c .args .s in
     let p = given c .pre in
     let l : s .map .0 < 2 ^ mostChannels = search needs in
-    run-before-first s _ _ _ _ _ (c .before .before .ways .ensures) l (p .0 .0) (p .0 .1) refl (p .1 .0 .1) (c .deadlines-in .ensures)
+    run-before-first _ s _ _ _ _ _ (c .before .before .ways .ensures) l (p .0 .0) (p .0 .1) refl (p .1 .0 .1) (c .deadlines-in .ensures)
 
 run-all-slots-requires : tie.Need-run-all-slots-requires
 run-all-slots-requires c κs =
@@ -52,7 +53,7 @@ returns c =
     let a = given d .args in
     let e = r .run-all-slots .ensures in (
       e .0 _ _ (begun d),
-      λ y. e .1 y _ _ (begun d) ∙ sets-at-start (a .table .now) (flat (rowsTo (used (a .s)) (a .end .0))) (given d .pre .1 .1 y .1),
+      λ y. e .1 y _ _ (begun d) ∙ sets-at-start (a .table .now) (flat (rowsToWith (orderOf (a .by)) (used (a .s)) (a .end .0))) (given d .pre .1 .1 y .1),
     )
 
 pub run-columns-spec : {M : Type 1} → statement M

@@ -25,7 +25,7 @@ put-run-requires c κs =
 same-length : tie.Need-same-length
 same-length c =
     let bounds = c .before .before .before .before .before .before in
-    c .before .before .put-run .kept .0 ∙ bounds .put-bounds .kept .0 ∙ bounds .before .before .before .before .put-verdict .kept .0
+    c .before .before .put-run .kept .1 .0 ∙ bounds .put-bounds .kept .0 ∙ bounds .before .before .before .before .put-verdict .kept .0
 
 returns : tie.Need-returns
 unfolding planOf

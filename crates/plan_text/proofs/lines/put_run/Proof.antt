@@ -4,8 +4,8 @@ use mathlib.Core.Path.{_≡_, refl, ap, _∙_}
 use Prim.Native.Nat.{_-_, _<_}
 use native.Mathlib.Omega.{arith}
 use Rattle.model.specs.Sets.{used}
-use Rattle.document.specs.Machine.{stepOf, runOf, runWith}
-use Rattle.document.specs.Program.{runLines}
+use Rattle.document.specs.Machine.{Priority, orderOf, stepWith, runWith}
+use Rattle.document.specs.Program.{runLinesWith}
 use Rattle.text.specs.Put.{Putting, putting-start, putting-more, putting-done}
 use Rattle.plan_text.specs.RunSlotBySlot.{run-more, run-last}
 use borrow.Author.Needs.{needs}
@@ -13,13 +13,15 @@ use Rattle.plan_text.proofs.lines.put_run.Statement.{statement}
 use Rattle.plan_text.proofs.lines.put_run.Tie as tie
 
 abbrev Inv-loop : tie.InvT-loop
-Inv-loop out₀ at s st₀ place₀ t₀ out st place t = (st ≡ runOf (used s) t .last) × Putting out₀ at (runLines (used s)) 12 out place t
+Inv-loop by out₀ at s st₀ place₀ t₀ out st place t =
+    let first = orderOf by in
+    (st ≡ runWith first (used s) t .last) × Putting out₀ at (runLinesWith first (used s)) 12 out place t
 
 abbrev μ-loop : tie.MeasureT-loop
-μ-loop out₀ at s st₀ place₀ t₀ out st place t = 12 - t
+μ-loop by out₀ at s st₀ place₀ t₀ out st place t = 12 - t
 
 loop-holds : tie.Need-loop-holds Inv-loop μ-loop
-unfolding runLines runWith
+unfolding runLinesWith runWith
 loop-holds c = (c .fresh .ensures, putting-start _ _ _ _ refl (omega arith))
 
 step-accepted-requires : tie.Need-step-accepted-requires Inv-loop μ-loop
@@ -33,11 +35,12 @@ loop-again c =
     let s = o .args .s in
     let l = test .before .loop in
     let a = stepped .step-accepted in
-    let e : a .result ≡ stepOf (used s) (runOf (used s) (l .t) .last) = a .ensures ∙ ap (stepOf (used s)) (l .inv .0) in
-    let m : s .map .0 < 65536 = o .good .1 .1 .0 .1 .1 .0 .1 .1 .0 .1 in
-    let f = run-more s (l .t) (a .result) (o .pre) m (omega arith) e in
+    let first : Priority = orderOf (o .args .by) in
+    let e : a .result ≡ stepWith first (used s) (runWith first (used s) (l .t) .last) = a .ensures ∙ ap (stepWith first (used s)) (l .inv .0) in
+    let m : s .map .0 < 65536 = o .good .1 .1 .1 .0 .1 .1 .0 .1 .1 .0 .1 in
+    let f = run-more first s (l .t) (a .result) (o .pre) m (omega arith) e in
     let p = putting-more _ _ _ _ _ _ _ (l .inv .1) _ _ _ (test .loop-test .taken) (omega arith) f (c .before .before .before .put-sends .ensures) in
-    (run-last (used s) (l .t) (a .result) e, p)
+    (run-last first (used s) (l .t) (a .result) e, p)
 
 same-length : tie.Need-same-length Inv-loop μ-loop
 same-length c = c .before .loop .inv .1 .long

@@ -2,7 +2,7 @@
 use mathlib.Core.Path.{ap, _∙_}
 use Rattle.model.specs.declared.kinds.State.{State}
 use Rattle.model.specs.Sets.{used}
-use Rattle.document.specs.Machine.{stepOf}
+use Rattle.document.specs.Machine.{orderOf, stepWith}
 use Rattle.laws.specs.Codes.{accepts, refuses}
 use Rattle.planner.specs.SlotIsStep.{PassedBefore, answered-before, set-passes, state-whole, step-answered}
 use Rattle.planner.specs.StateBytes.{state-in}
@@ -16,7 +16,7 @@ returns c =
     let a = b .before .before .before .args in
     let f = b .fault-before-step .result in
     let g = refuses f (c .before .before .refuses .ensures) (c .before .if1 .taken) in
-    let w = answered-before (a .reading) (a .state .now) (a .lines .now) f (b .fault-before-step .ensures) g in
+    let w = answered-before (orderOf (a .by)) (a .reading) (a .state .now) (a .lines .now) f (b .fault-before-step .ensures) g in
     (c .refused .ensures ∙ w .0, w .1)
 
 -- nothing is refused before the step
@@ -29,7 +29,7 @@ passed-before l =
     record {
       fault-is = b .fault-before-step .ensures;
       passed = accepts (b .fault-before-step .result) (l .before .refuses .ensures) (l .if1 .left);
-      bits = b .before .before .before .good .0 .1 .1 .1 .0 .1 .1 .0 .1 .1 .0 .1;
+      bits = b .before .before .before .good .1 .0 .1 .1 .1 .0 .1 .1 .0 .1 .1 .0 .1;
     }
 
 step-accepted-requires : tie.Need-step-accepted-requires
@@ -48,9 +48,10 @@ returns-2 c =
     let f = l .before .before .fault-before-step .result in
     let q = passed-before l in
     let e = state-whole (a .reading) (a .state .now) f q in
-    let step-is = p .step-accepted .ensures ∙ ap (λ (st : State). stepOf (used (a .reading .set)) st) (o .state-of .ensures ∙ state-in (a .state .now) e) in
+    let first = orderOf (a .by) in
+    let step-is = p .step-accepted .ensures ∙ ap (λ (st : State). stepWith first (used (a .reading .set)) st) (o .state-of .ensures ∙ state-in (a .state .now) e) in
     let w = v .write-step .ensures in
-    let z = step-answered (a .reading) (a .state .now) f q (p .step-accepted .result) (a .lines .now) step-is in
+    let z = step-answered (a .reading) (a .state .now) f q first (p .step-accepted .result) (a .lines .now) step-is in
     (w .0 ∙ z .0, (w .1 .0 ∙ z .1 .0, w .1 .1 ∙ z .1 .1))
 
 pub slot-of-reading-spec : {M : Type 1} → statement M
