@@ -29,7 +29,7 @@ target/staticlib/lib%.a: $(SOURCES)
 	rt staticlib $*
 
 # the kit leaves a program alone that is as its sources say
-PROGRAMS := plan superframe
+PROGRAMS := plan superframe fixed
 $(PROGRAMS:%=target/bin/%): target/bin/%: $(SOURCES)
 	rt check $*
 	touch $@

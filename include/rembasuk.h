@@ -1,4 +1,4 @@
-/* Rembasuk: admission and slot schedule of wireless flows, earliest deadline first.
+/* Rembasuk: admission and slot schedule of wireless flows, earliest deadline first; and, for plants that run it, fixed priority.
  *
  * The functions of the library are proved to do what the definitions in crates/model/specs and crates/document/specs say, for every input:
  * no call can fail otherwise than by one of the refusals below, and every call ends. docs/FORMAT.md explains the texts, README.md what is
@@ -31,6 +31,13 @@
  * t mod hyper-period: transmission number i of a flow goes over link i / TRIES of its route, with try i mod TRIES, on the channel that
  * rembasuk_channel answers for the map, the TRUE slot t and the offset. All devices count slots from the same slot 0. The channel is not in the
  * table, since it follows the true slot: the number of channels need not divide the hyper-period.
+ *
+ * FIXED PRIORITY is for plants that schedule by flow number alone, lower first. rembasuk_fixed_slot makes the slots of that machine: it differs from
+ * the one above only in whom a slot takes first. rembasuk_fixed_verdict and rembasuk_fixed_bounds are its test, and have for it the promise above: if
+ * this test admits the set, and the slots are made by rembasuk_fixed_slot one after the other from the fresh state, each once, then no packet is
+ * dropped and each is sent within its bound by this test. In a set that it does not admit every flow before the first one over its deadline still
+ * keeps its bound and loses no packet. A verdict of the other tests promises nothing of these slots, nor this one of the slots above. The state has
+ * the same 68 bytes; whoever changes from one machine to the other begins with the fresh state.
  *
  * MEMORY. The caller owns every buffer. A function reads and writes only the bytes lent, keeps no pointer, and allocates nothing.
  * A buffer of length 0 may be NULL. The areas lent to one call must not overlap.
@@ -68,7 +75,7 @@ extern "C" {
 #define REMBASUK_FIRST_CHANNEL 11      /* bit 0 of the map */
 #define REMBASUK_LAST_SLOT 4000000000u /* no slot is made from here on */
 
-/* The longest text that is accepted, and the longest input of the programs `plan` and `superframe`, in bytes. */
+/* The longest text that is accepted, and the longest input of the programs `plan`, `superframe` and `fixed`, in bytes. */
 #define REMBASUK_TEXT_LENGTH 8138
 #define REMBASUK_INPUT_LENGTH 16384
 
@@ -91,8 +98,8 @@ extern "C" {
 /* A line of a table has at most this many bytes: four numbers of five digits, three tabs and LF. */
 #define REMBASUK_ROW_LINE_LENGTH 24
 
-/* How many bytes of stack a call may use: the verdict, the bounds of one flow and of all; the slot; the superframe and its size; a table
- * written or read, and the channel. */
+/* How many bytes of stack a call may use: the verdict, the bounds of one flow and of all, the verdict and the bounds of fixed priority; a slot of
+ * either machine; the superframe and its size; a table written or read, and the channel. */
 #define REMBASUK_VERDICT_STACK 65536
 #define REMBASUK_SLOT_STACK 32768
 #define REMBASUK_SUPERFRAME_STACK 65536
@@ -206,6 +213,37 @@ typedef struct {
  * are always enough. The tightened test's rounds are made once, where a call of rembasuk_bounds for each flow makes them again.
  * On any refusal the table does not change. Refusals: 1 to 9, then 10. */
 rembasuk_table_answer rembasuk_all_bounds(const uint8_t *text, size_t text_length, uint32_t *table, size_t room);
+
+/* What the test for fixed priority says of a set. A refused verdict has zeros from `admitted` on. */
+typedef struct {
+    uint32_t refusal;   /* 0, or 1 to 9 */
+    size_t line;        /* the line that is refused, or 0 */
+    size_t field;       /* its field that is bad, or 0 */
+    uint32_t admitted;  /* 1 if the test admits the set; a set without flows is admitted */
+    uint32_t judged;    /* how many flows were judged: all, or those up to the first one over its deadline, it among them */
+} rembasuk_fixed_verdict_answer;
+
+/* One flow's bound by fixed priority, in slots. A refused answer has zeros from `work` on. */
+typedef struct {
+    uint32_t refusal;   /* 0, 1 to 9, or 13 */
+    size_t line;        /* the line that is refused, or 0 */
+    size_t field;       /* its field that is bad, or 0 */
+    uint32_t work;      /* C, the transmissions of one packet: links x tries */
+    uint32_t bound;     /* the delay bound; 0 for a flow that was not judged */
+    uint32_t deadline;  /* the flow's deadline */
+    uint32_t judged;    /* 1 if the flow was judged, 0 if it follows one over its deadline */
+} rembasuk_fixed_bounds_answer;
+
+/* The verdict for fixed priority on the set in `text`. Refusals: 1 to 9. */
+rembasuk_fixed_verdict_answer rembasuk_fixed_verdict(const uint8_t *text, size_t text_length);
+
+/* The bound by fixed priority of flow number `flow`, counted from 0 in order of the lines, which is their order of priority too.
+ * Refusals: 1 to 9, then 13. */
+rembasuk_fixed_bounds_answer rembasuk_fixed_bounds(const uint8_t *text, size_t text_length, uint32_t flow);
+
+/* One slot by fixed priority: buffers, answer and refusals are those of rembasuk_slot. */
+rembasuk_slot_answer rembasuk_fixed_slot(const uint8_t *text, size_t text_length, uint8_t *state, size_t state_length, uint8_t *lines,
+                                         size_t lines_length);
 
 /* What is said of a superframe. A refused answer has zeros from `hyper` on. */
 typedef struct {

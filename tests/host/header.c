@@ -36,6 +36,8 @@ int main(void)
     uint8_t state[REMBASUK_STATE_LENGTH], lines[REMBASUK_LINES_LENGTH];
     uint16_t table[REMBASUK_ROW_LENGTH];
     rembasuk_superframe_answer f = rembasuk_superframe((const uint8_t *)set, strlen(set), table, REMBASUK_ROW_LENGTH);
+    rembasuk_fixed_verdict_answer fixed = rembasuk_fixed_verdict((const uint8_t *)set, strlen(set));
+    rembasuk_fixed_bounds_answer judged = rembasuk_fixed_bounds((const uint8_t *)set, strlen(set), 0);
     rembasuk_lines_answer w;
     rembasuk_rows_answer r;
     rembasuk_slot_answer s;
@@ -43,6 +45,13 @@ int main(void)
     s = rembasuk_slot((const uint8_t *)set, strlen(set), state, sizeof state, lines, sizeof lines);
     if (v.refusal != REMBASUK_NOT_REFUSED || b.refusal != REMBASUK_NO_SUCH_FLOW || s.refusal != REMBASUK_NOT_REFUSED || s.length != 18) {
         puts("header: a call is answered otherwise");
+        return 1;
+    }
+    memset(state, 0, sizeof state);
+    s = rembasuk_fixed_slot((const uint8_t *)set, strlen(set), state, sizeof state, lines, sizeof lines);
+    if (fixed.refusal != REMBASUK_NOT_REFUSED || fixed.admitted != 1 || fixed.judged != 1 || judged.refusal != REMBASUK_NOT_REFUSED ||
+        judged.work != 1 || judged.bound != 1 || judged.deadline != 2 || judged.judged != 1 || s.refusal != REMBASUK_NOT_REFUSED || s.length != 18) {
+        puts("header: fixed priority is answered otherwise");
         return 1;
     }
     if (f.refusal != REMBASUK_NOT_REFUSED || f.hyper != 10 || f.numbers != 4 || rembasuk_superframe_size((const uint8_t *)set, strlen(set)).numbers != 4) {

@@ -41,6 +41,25 @@ static void *slot(void *unused) {
     return NULL;
 }
 
+static void *fixed_verdict(void *unused) {
+    (void)unused;
+    (void)rembasuk_fixed_verdict(text, length);
+    return NULL;
+}
+
+static void *fixed_bounds(void *unused) {
+    (void)unused;
+    (void)rembasuk_fixed_bounds(text, length, 63);
+    return NULL;
+}
+
+static void *fixed_slot(void *unused) {
+    (void)unused;
+    memset(state, 0, sizeof state);
+    (void)rembasuk_fixed_slot(text, length, state, sizeof state, lines, sizeof lines);
+    return NULL;
+}
+
 static void *superframe_size(void *unused) {
     (void)unused;
     numbers = rembasuk_superframe_size(text, length).numbers;
@@ -114,6 +133,8 @@ int main(void) {
     make_text();
     bad = check("rembasuk_verdict", verdict, REMBASUK_VERDICT_STACK) + check("rembasuk_bounds", bounds, REMBASUK_VERDICT_STACK)
         + check("rembasuk_all_bounds", all_bounds, REMBASUK_VERDICT_STACK) + check("rembasuk_slot", slot, REMBASUK_SLOT_STACK);
+    bad += check("rembasuk_fixed_verdict", fixed_verdict, REMBASUK_VERDICT_STACK) + check("rembasuk_fixed_bounds", fixed_bounds, REMBASUK_VERDICT_STACK)
+        + check("rembasuk_fixed_slot", fixed_slot, REMBASUK_SLOT_STACK);
     make_repeating();
     bad += check("rembasuk_superframe_size", superframe_size, REMBASUK_SUPERFRAME_STACK) + check("rembasuk_superframe", superframe, REMBASUK_SUPERFRAME_STACK);
     bad += check("rembasuk_table_write", table_write, REMBASUK_TABLE_STACK) + check("rembasuk_table_read", table_read, REMBASUK_TABLE_STACK);
@@ -122,6 +143,7 @@ int main(void) {
     make_text();
     text[length - 2] = 'x';
     bad += check("rembasuk_verdict, refused", verdict, REMBASUK_VERDICT_STACK) + check("rembasuk_slot, refused", slot, REMBASUK_SLOT_STACK);
+    bad += check("rembasuk_fixed_verdict, refused", fixed_verdict, REMBASUK_VERDICT_STACK) + check("rembasuk_fixed_slot, refused", fixed_slot, REMBASUK_SLOT_STACK);
     if (numbers == 0 || bytes == 0) {
         puts("stack: no table was made");
         bad++;

@@ -72,14 +72,14 @@ zero-from-start n = record { whole = length-replicate {A = ℕ} mostFlows 0; non
 
 -- one row more
 pub shares-start : (n : ℕ) (p d c w : List ℕ) → SharesTo n 0 p d c w (replicate (mostFlows * mostFlows) 0) (replicate mostFlows 0) (replicate mostFlows 0)
-shares-start n p d c w = record { remainders = rows-start _ n; conflicts = filled-start _; works = filled-start _; works-le = λ i h. absurd (omega arith) }
+shares-start n p d c w = record { remainders = rows-start _ (λ i. n); conflicts = filled-start _; works = filled-start _; works-le = λ i h. absurd (omega arith) }
 
 pub shares-next : (n k : ℕ) (p d c w t u x y : List ℕ) (a b : ℕ) → k < n → n ≤ mostFlows → SharesTo n k p d c w t x y
     → RowDone (remainderRow d p k) n k t u → a ≡ packetSum (getD d k 0) p n k (λ l. pairAt c k l) → b ≡ packetSum (getD d k 0) p n k (λ l. getD w l 0)
     → b ≤ 268431360 → SharesTo n (k + 1) p d c w u (set x k a) (set y k b)
 shares-next n k p d c w t u x y a b hk hn o r e f l =
     record {
-      remainders = rows-next _ n k t u hn (o .remainders) r;
+      remainders = rows-next _ (λ i. n) k t u (λ i j. hn) (o .remainders) r;
       conflicts = filled-next _ k x a (omega arith) (o .conflicts) e;
       works = filled-next _ k y b (omega arith) (o .works) f;
       works-le = λ i j. elim (decLe k i) [
@@ -94,7 +94,7 @@ module _ (t : Tables) (e : t ≡ blankTables) where
   flow-numbers-lent s d h = rw (e, h) (flow-numbers-start s)
 
   pub conflicts-lent : (f : ℕ → ℕ → ℕ) (n : ℕ) → RowsTo f n 0 (t .conflict)
-  conflicts-lent f n = rw e (rows-start f n)
+  conflicts-lent f n = rw e (rows-start f (λ i. n))
 
   pub shares-lent : (n : ℕ) (p d c w : List ℕ) → SharesTo n 0 p d c w (t .remainder) (t .wholeS) (t .wholeC)
   shares-lent n p d c w = rw e (shares-start n p d c w)

@@ -1,13 +1,17 @@
 pub mod AllBounds
+pub mod AllFixed
 pub mod AcceptedFlows
 pub mod RoutePlaces
 pub mod RouteLists
 pub mod PairGrids
 pub mod ShareRows
+pub mod FirstShares
+pub mod FixedJudged
 pub mod DelayTables
 pub mod EquationValues
 pub mod OneRound
 pub mod RoundsReached
 pub mod VerdictAnswers
+pub mod FixedAnswers
 pub mod BoundsReached
 pub mod GreatestAnswers

@@ -1,7 +1,7 @@
 -- Grids of numbers, one for each pair of flows: row k, column l, in rows of as many columns as a set may have flows. Rows of one number for each flow.
 -- Both are filled place by place: what is written is there, and what was there before stays.
 use mathlib.Core.Path.{_≡_, refl, _∙_}
-use mathlib.Core.Bool.{cond}
+use mathlib.Core.Bool.{Bool, true, false, cond}
 use mathlib.Core.Logic.{_⊎_, _≢_, inl, inr}
 use mathlib.Core.List.{List}
 use Prim.Native.Nat.{ℕ, _+_, _*_, _≤_, _<_, zero, suc}
@@ -27,11 +27,23 @@ ofOther k l x = cond (eqb l k) 0 x
 abbrev pub conflictOf : FlowSet → ℕ → ℕ → ℕ
 conflictOf s k l = conflictWork (flowAt s k) (flowAt s l)
 
--- the rows before k hold f, as far as column n; all else is 0
-pub record RowsTo (f : ℕ → ℕ → ℕ) (n k : ℕ) (t : List ℕ) : Type 0 where
+-- the rows before k hold f, row i as far as column c i; all else is 0
+pub record RowsBy (f : ℕ → ℕ → ℕ) (c : ℕ → ℕ) (k : ℕ) (t : List ℕ) : Type 0 where
   pub whole : length t ≡ mostFlows * mostFlows
-  pub row : (i l : ℕ) → i < k → l < n → pairAt t i l ≡ f i l
-  pub none : (i l : ℕ) → l < mostFlows → (k ≤ i) ⊎ (n ≤ l) → pairAt t i l ≡ 0
+  pub row : (i l : ℕ) → i < k → l < c i → pairAt t i l ≡ f i l
+  pub none : (i l : ℕ) → l < mostFlows → (k ≤ i) ⊎ (c i ≤ l) → pairAt t i l ≡ 0
+
+-- every row as far as column n
+abbrev pub RowsTo : (ℕ → ℕ → ℕ) → ℕ → ℕ → List ℕ → Type 0
+RowsTo f n k t = RowsBy f (λ i. n) k t
+
+-- row i as far as column i: the flows below i, and i itself
+abbrev pub RowsBelow : (ℕ → ℕ → ℕ) → ℕ → List ℕ → Type 0
+RowsBelow f k t = RowsBy f (λ i. i + 1) k t
+
+-- how many columns of row i are filled: those of the flows up to i alone, or all n
+abbrev pub columnsOf : Bool → ℕ → ℕ → ℕ
+columnsOf below n i = cond below (i + 1) n
 
 -- u is t with f in row k, as far as column n; all else is as it was
 pub record RowDone (f : ℕ → ℕ) (n k : ℕ) (t u : List ℕ) : Type 0 where
@@ -91,36 +103,50 @@ row-next f n k t u x hk hn d e =
     fewer i l (inl q) = inl q
     fewer i l (inr q) = inr (omega arith)
 
-pub rows-start : (f : ℕ → ℕ → ℕ) (n : ℕ) → RowsTo f n 0 (replicate (mostFlows * mostFlows) 0)
-rows-start f n =
+pub rows-start : (f : ℕ → ℕ → ℕ) (c : ℕ → ℕ) → RowsBy f c 0 (replicate (mostFlows * mostFlows) 0)
+rows-start f c =
     record {
       whole = length-replicate {A = ℕ} (mostFlows * mostFlows) 0;
       row = λ i l j m. absurd (omega arith);
       none = λ i l j o. zeros (mostFlows * mostFlows) (i * mostFlows + l);
     }
 
-pub rows-next : (f : ℕ → ℕ → ℕ) (n k : ℕ) (t u : List ℕ) → n ≤ mostFlows → RowsTo f n k t → RowDone (f k) n k t u → RowsTo f n (k + 1) u
-rows-next f n k t u h r d =
+pub rows-next : (f : ℕ → ℕ → ℕ) (c : ℕ → ℕ) (k : ℕ) (t u : List ℕ) → ((i : ℕ) → i < k → c i ≤ mostFlows) → RowsBy f c k t
+    → RowDone (f k) (c k) k t u → RowsBy f c (k + 1) u
+rows-next f c k t u h r d =
     record {
       whole = d .whole;
       row = λ i l j m. elim (decLe k i) [
-        | yes q ↦ let e : i ≡ k = omega arith in rw e (d .row l m)
-        | no q ↦ d .kept i l (omega arith) (inl (λ z. omega arith)) ∙ r .row i l (omega arith) m
+        | yes q ↦ let e : i ≡ k = omega arith in rw e (d .row l (rw e at m))
+        | no q ↦ d .kept i l (omega (arith, h i (omega arith))) (inl (λ z. omega arith)) ∙ r .row i l (omega arith) m
       ];
       none = λ i l j o. d .kept i l j (away i l o) ∙ r .none i l j (fewer i l o);
     }
   where
-    away : (i l : ℕ) → (k + 1 ≤ i) ⊎ (n ≤ l) → (i ≢ k) ⊎ (n ≤ l)
+    away : (i l : ℕ) → (k + 1 ≤ i) ⊎ (c i ≤ l) → (i ≢ k) ⊎ (c k ≤ l)
     away i l (inl q) = inl (λ z. omega arith)
-    away i l (inr q) = inr q
+    away i l (inr q) =
+        elim (ℕ-discrete i k) [
+          | yes e ↦ inr (rw e at q)
+          | no e ↦ inl e
+        ]
 
-    fewer : (i l : ℕ) → (k + 1 ≤ i) ⊎ (n ≤ l) → (k ≤ i) ⊎ (n ≤ l)
+    fewer : (i l : ℕ) → (k + 1 ≤ i) ⊎ (c i ≤ l) → (k ≤ i) ⊎ (c i ≤ l)
     fewer i l (inl q) = inl (omega arith)
     fewer i l (inr q) = inr q
 
+-- a flow's row has its own column, and no more columns than there are flows
+pub columns-own : (below : Bool) (n i : ℕ) → i < n → i < columnsOf below n i
+columns-own true n i h = omega arith
+columns-own false n i h = h
+
+pub columns-le : (below : Bool) (n i : ℕ) → i < n → columnsOf below n i ≤ n
+columns-le true n i h = omega arith
+columns-le false n i h = omega arith
+
 -- rows of another function that is the same there
-pub rows-ext : (f g : ℕ → ℕ → ℕ) (n k : ℕ) (t : List ℕ) → ((i l : ℕ) → i < k → l < n → f i l ≡ g i l) → RowsTo f n k t → RowsTo g n k t
-rows-ext f g n k t e r = record { whole = r .whole; row = λ i l j m. r .row i l j m ∙ e i l j m; none = r .none }
+pub rows-ext : (f g : ℕ → ℕ → ℕ) (c : ℕ → ℕ) (k : ℕ) (t : List ℕ) → ((i l : ℕ) → i < k → l < c i → f i l ≡ g i l) → RowsBy f c k t → RowsBy g c k t
+rows-ext f g c k t e r = record { whole = r .whole; row = λ i l j m. r .row i l j m ∙ e i l j m; none = r .none }
 
 pub filled-start : (f : ℕ → ℕ) → FilledTo f 0 (replicate mostFlows 0)
 filled-start f = record { whole = length-replicate {A = ℕ} mostFlows 0; entry = λ i l. absurd (omega arith); none = λ i l. zeros mostFlows i }

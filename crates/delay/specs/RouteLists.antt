@@ -39,6 +39,16 @@ pub record Listed (n : ℕ) (routes : List (List ℕ)) (l t : List ℕ) : Type 0
 abbrev pub listedWork : List (List ℕ) → List ℕ → List ℕ → ℕ → ℕ → ℕ
 listedWork routes l t k i = getD t i 0 * endsOn (getD routes i []) (take (getD l k 0 + 1) (getD routes k [])) (getD l i 0)
 
+-- fewer of them
+pub listed-fewer : (m n : ℕ) (routes : List (List ℕ)) (l t : List ℕ) → m ≤ n → Listed n routes l t → Listed m routes l t
+listed-fewer m n routes l t h o =
+    record {
+      few = omega (arith, o .few);
+      long = λ i j. o .long i (omega arith);
+      links-le = λ i j. o .links-le i (omega arith);
+      tries-le = λ i j. o .tries-le i (omega arith);
+    }
+
 pub listed-start : (s : FlowSet) → ListedTo s 0 (replicate mostFlows (replicate mostNodes 0)) (replicate mostFlows 0) (replicate mostFlows 0)
 listed-start s =
     record {

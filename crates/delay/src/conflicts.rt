@@ -6,7 +6,7 @@ ghost use Prim.Native.Nat.{_+_, _<_, _≤_};
 ghost use lib.ListN.{getD, length, take};
 ghost use Rattle.delay.specs.RoutePlaces.{Places, endOn, endsOn, kindOf};
 ghost use Rattle.delay.specs.RouteLists.{Listed, ListedTo, listedWork};
-ghost use Rattle.delay.specs.PairGrids.{RowDone, RowsTo, conflictOf};
+ghost use Rattle.delay.specs.PairGrids.{RowDone, RowsBelow, RowsBy, RowsTo, columnsOf, conflictOf};
 ghost use Rattle.model.specs.Limits.{mostFlows, mostLinks, mostNodes};
 ghost use Rattle.model.specs.Sets.{used};
 ghost use Rattle.model.specs.Sums.{bit};
@@ -140,7 +140,7 @@ fn links_touched(
     touched
 }
 
-// S of flow k and every flow, in row k.
+// S of flow k and the first n flows, in row k.
 fn conflict_row(
     n: usize,
     k: usize,
@@ -163,20 +163,29 @@ fn conflict_row(
     }
 }
 
-// S of the first n flows, in as many rows.
+// How many columns row k has: those of the flows up to k alone, or of all n.
+fn columns(below: bool, n: usize, k: usize) -> usize
+    requires { ⌜ k < n ⌝ }
+    ensures { λ r. ⌜ r ≡ columnsOf below n k ⌝ }
+{
+    if below { k + 1 } else { n }
+}
+
+// S of the first n flows, in as many rows: of each with all of them, or with those up to it alone.
 fn conflict_rows(
+    below: bool,
     n: usize,
     routes: &Routes,
     links: &[u16; Flow::MOST],
     tries: &[u16; Flow::MOST],
     t: &mut [u16; PAIRS],
 )
-    requires { ⌜ Listed n (now routes) (now links) (now tries) × RowsTo (listedWork (now routes) (now links) (now tries)) n 0 (now t) ⌝ }
-    ensures { λ r. ⌜ RowsTo (listedWork (now (routes .entry)) (now (links .entry)) (now (tries .entry))) n n (now (t .exit)) ⌝ }
+    requires { ⌜ Listed n (now routes) (now links) (now tries) × RowsBy (listedWork (now routes) (now links) (now tries)) (columnsOf below n) 0 (now t) ⌝ }
+    ensures { λ r. ⌜ RowsBy (listedWork (now (routes .entry)) (now (links .entry)) (now (tries .entry))) (columnsOf below n) n (now (t .exit)) ⌝ }
 {
     let mut k: usize = 0;
     while k < n {
-        conflict_row(n, k, routes, links, tries, t);
+        conflict_row(columns(below, n, k), k, routes, links, tries, t);
         k += 1;
     }
 }
@@ -209,16 +218,32 @@ fn list_routes(
     }
 }
 
-// S of every pair of flows.
-pub fn conflict_work_of_all(s: FlowSet, t: &mut [u16; PAIRS])
-    requires { ⌜ Accepted (used s) × RowsTo (conflictOf (used s)) (s .count) 0 (now t) ⌝ }
-    ensures { λ r. ⌜ RowsTo (conflictOf (used s)) (s .count) (s .count) (now (t .exit)) ⌝ }
+// S of each flow with the flows up to it alone, or with every flow.
+fn conflict_work(below: bool, s: FlowSet, t: &mut [u16; PAIRS])
+    requires { ⌜ Accepted (used s) × RowsBy (conflictOf (used s)) (columnsOf below (s .count)) 0 (now t) ⌝ }
+    ensures { λ r. ⌜ RowsBy (conflictOf (used s)) (columnsOf below (s .count)) (s .count) (now (t .exit)) ⌝ }
 {
     let mut routes = [[0u16; Flow::MOST_NODES]; Flow::MOST];
     let mut links = [0u16; Flow::MOST];
     let mut tries = [0u16; Flow::MOST];
     list_routes(s, &mut routes, &mut links, &mut tries);
-    conflict_rows(s.count as usize, &routes, &links, &tries, t);
+    conflict_rows(below, s.count as usize, &routes, &links, &tries, t);
+}
+
+// S of every pair of flows.
+pub fn conflict_work_of_all(s: FlowSet, t: &mut [u16; PAIRS])
+    requires { ⌜ Accepted (used s) × RowsTo (conflictOf (used s)) (s .count) 0 (now t) ⌝ }
+    ensures { λ r. ⌜ RowsTo (conflictOf (used s)) (s .count) (s .count) (now (t .exit)) ⌝ }
+{
+    conflict_work(false, s, t);
+}
+
+// S of the pairs that fixed priority asks for: of a flow and those below it, which go first.
+pub fn conflict_work_below(s: FlowSet, t: &mut [u16; PAIRS])
+    requires { ⌜ Accepted (used s) × RowsBelow (conflictOf (used s)) 0 (now t) ⌝ }
+    ensures { λ r. ⌜ RowsBelow (conflictOf (used s)) (s .count) (now (t .exit)) ⌝ }
+{
+    conflict_work(true, s, t);
 }
 
 // How many pairs of flows a set can have: row k, column l of a grid is at k times the most flows, plus l.

@@ -11,7 +11,7 @@ use crate::shares;
 use model::Flow;
 
 // C + ΣX + (ΣW − ΣX) / m, with one division after both sums.
-fn joined_bound(c: u16, x: u32, w: u32, m: u32) -> u32
+pub fn joined_bound(c: u16, x: u32, w: u32, m: u32) -> u32
     requires { ⌜ (x ≤ w) × (w ≤ 272625600) × (0 < m) ⌝ }
     ensures { λ r. ⌜ (r ≡ joined c x w m) × (r ≤ 272691135) ⌝ }
 {

@@ -1,5 +1,5 @@
 // The two delay tests of document 01: both bounds of every flow, the verdicts of a set, and one flow's bounds. The shares of each pair of
-// flows, as far as no round changes them, are tables that are made once.
+// flows, as far as no round changes them, are tables that are made once. Request 4's test for fixed priority is a module of its own.
 ghost use Prim.Native.Nat.{_<_, _≤_};
 ghost use lib.ListN.{replicate};
 ghost use Rattle.delay.specs.DelayTables.{DeadlinesOf, TablesHold, blankTables, tablesOf};
@@ -16,10 +16,17 @@ ghost use Rattle.document.specs.Delay.{AtGreatest, admits, boundsOf, mostRounds
 
 mod conflicts;
 mod equation;
+mod fixed;
 mod rounds;
 mod shares;
 mod verdicts;
 
+pub use fixed::AllFixed;
+pub use fixed::all_fixed;
+pub use fixed::fixed_bounds;
+pub use fixed::fixed_bounds_of;
+pub use fixed::fixed_verdict;
+pub use fixed::fixed_verdict_of;
 use model::Bounds;
 use model::Fault;
 use model::Flow;

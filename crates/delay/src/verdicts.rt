@@ -48,7 +48,7 @@ fn both(a: bool, b: bool) -> bool
 }
 
 // A test admits when every bound is at most its deadline.
-fn admits(s: FlowSet, bound: [u32; Flow::MOST]) -> bool
+pub fn admits(s: FlowSet, bound: [u32; Flow::MOST]) -> bool
     requires { ⌜ s .count ≤ mostFlows ⌝ }
     ensures { λ r. ⌜ r ≡ admits (used s) (λ k. getD bound k 0) ⌝ }
 {

@@ -32,6 +32,22 @@ pub fn run(s: FlowSet, budget: u32) -> TwoRan
     TwoRan(a, b)
 }
 
+pub fn fixed_step(s: FlowSet, st: State) -> TwoStepped
+    ensures { λ r. ⌜ r .0 ≡ r .1 ⌝ }
+{
+    let a = machine::fixed_step(s, st);
+    let b = machine::fixed_step(s, st);
+    TwoStepped(a, b)
+}
+
+pub fn fixed_run(s: FlowSet, budget: u32) -> TwoRan
+    ensures { λ r. ⌜ r .0 ≡ r .1 ⌝ }
+{
+    let a = machine::fixed_run(s, budget);
+    let b = machine::fixed_run(s, budget);
+    TwoRan(a, b)
+}
+
 pub fn step_accepted(by: Order, s: FlowSet, st: State) -> TwoStepped
     requires { ⌜ good (recordFault (used s) .refusal) ≡ true ⌝ }
     ensures { λ r. ⌜ r .0 ≡ r .1 ⌝ }

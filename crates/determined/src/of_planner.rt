@@ -1,6 +1,8 @@
 // What C calls, each called twice.
 ghost use mathlib.Core.Path.{_≡_};
 use crate::two::TwoBoundsAnswer;
+use crate::two::TwoFixedBoundsAnswer;
+use crate::two::TwoFixedVerdictAnswer;
 use crate::two::TwoLinesAnswer;
 use crate::two::TwoRowsAnswer;
 use crate::two::TwoSlotAnswer;
@@ -9,6 +11,8 @@ use crate::two::TwoTableAnswer;
 use crate::two::TwoU32;
 use crate::two::TwoVerdictAnswer;
 use model::Bounds;
+use model::FixedBounds;
+use model::FixedVerdict;
 use model::Tabled;
 use model::Verdict;
 use model::Written;
@@ -124,4 +128,53 @@ pub fn superframe_numbers(tabled: Tabled) -> TwoSuperframeAnswer
     let a = planner::superframe_numbers(tabled);
     let b = planner::superframe_numbers(tabled);
     TwoSuperframeAnswer(a, b)
+}
+
+pub fn rembasuk_fixed_verdict(text: &[u8]) -> TwoFixedVerdictAnswer
+    ensures { λ r. ⌜ r .0 ≡ r .1 ⌝ }
+{
+    let a = planner::rembasuk_fixed_verdict(text);
+    let b = planner::rembasuk_fixed_verdict(text);
+    TwoFixedVerdictAnswer(a, b)
+}
+
+pub fn rembasuk_fixed_bounds(text: &[u8], flow: u32) -> TwoFixedBoundsAnswer
+    ensures { λ r. ⌜ r .0 ≡ r .1 ⌝ }
+{
+    let a = planner::rembasuk_fixed_bounds(text, flow);
+    let b = planner::rembasuk_fixed_bounds(text, flow);
+    TwoFixedBoundsAnswer(a, b)
+}
+
+pub fn rembasuk_fixed_slot(
+    text: &[u8],
+    s: &mut [u8],
+    u: &mut [u8],
+    x: &mut [u8],
+    y: &mut [u8],
+) -> TwoSlotAnswer
+    ensures { λ r. ⌜
+        (((now (s .entry) ≡ now (u .entry)) × (now (x .entry) ≡ now (y .entry)))
+        → ((r .0 ≡ r .1) × (now (s .exit) ≡ now (u .exit)) × (now (x .exit) ≡ now (y .exit))))
+        ⌝ }
+{
+    let a = planner::rembasuk_fixed_slot(text, s, x);
+    let b = planner::rembasuk_fixed_slot(text, u, y);
+    TwoSlotAnswer(a, b)
+}
+
+pub fn fixed_verdict_numbers(v: FixedVerdict) -> TwoFixedVerdictAnswer
+    ensures { λ r. ⌜ r .0 ≡ r .1 ⌝ }
+{
+    let a = planner::fixed_verdict_numbers(v);
+    let b = planner::fixed_verdict_numbers(v);
+    TwoFixedVerdictAnswer(a, b)
+}
+
+pub fn fixed_bounds_numbers(bounds: FixedBounds) -> TwoFixedBoundsAnswer
+    ensures { λ r. ⌜ r .0 ≡ r .1 ⌝ }
+{
+    let a = planner::fixed_bounds_numbers(bounds);
+    let b = planner::fixed_bounds_numbers(bounds);
+    TwoFixedBoundsAnswer(a, b)
 }

@@ -1,6 +1,8 @@
 // What the comparison calls, each called twice.
 ghost use mathlib.Core.Path.{_≡_};
 use crate::two::TwoBoundsAnswer;
+use crate::two::TwoFixedBoundsAnswer;
+use crate::two::TwoFixedVerdictAnswer;
 use crate::two::TwoProbeFault;
 use crate::two::TwoProbeRan;
 use crate::two::TwoProbeReading;
@@ -89,4 +91,44 @@ pub fn probe_superframe(s: FlowSet, x: &mut [u16], y: &mut [u16]) -> TwoSuperfra
     let a = probe::probe_superframe(s, x);
     let b = probe::probe_superframe(s, y);
     TwoSuperframeAnswer(a, b)
+}
+
+pub fn probe_fixed_verdict(s: FlowSet) -> TwoFixedVerdictAnswer
+    ensures { λ r. ⌜ r .0 ≡ r .1 ⌝ }
+{
+    let a = probe::probe_fixed_verdict(s);
+    let b = probe::probe_fixed_verdict(s);
+    TwoFixedVerdictAnswer(a, b)
+}
+
+pub fn probe_fixed_bounds(s: FlowSet, flow: u16) -> TwoFixedBoundsAnswer
+    ensures { λ r. ⌜ r .0 ≡ r .1 ⌝ }
+{
+    let a = probe::probe_fixed_bounds(s, flow);
+    let b = probe::probe_fixed_bounds(s, flow);
+    TwoFixedBoundsAnswer(a, b)
+}
+
+pub fn probe_fixed_step(s: FlowSet, st: State) -> TwoProbeStepped
+    ensures { λ r. ⌜ r .0 ≡ r .1 ⌝ }
+{
+    let a = probe::probe_fixed_step(s, st);
+    let b = probe::probe_fixed_step(s, st);
+    TwoProbeStepped(a, b)
+}
+
+pub fn probe_fixed_run(s: FlowSet, budget: u32) -> TwoProbeRan
+    ensures { λ r. ⌜ r .0 ≡ r .1 ⌝ }
+{
+    let a = probe::probe_fixed_run(s, budget);
+    let b = probe::probe_fixed_run(s, budget);
+    TwoProbeRan(a, b)
+}
+
+pub fn probe_fixed(input: &[u8], x: &mut [u8], y: &mut [u8]) -> TwoSlotAnswer
+    ensures { λ r. ⌜ ((now (x .entry) ≡ now (y .entry)) → ((r .0 ≡ r .1) × (now (x .exit) ≡ now (y .exit)))) ⌝ }
+{
+    let a = probe::probe_fixed(input, x);
+    let b = probe::probe_fixed(input, y);
+    TwoSlotAnswer(a, b)
 }

@@ -4,6 +4,8 @@ use crate::two::TwoBool;
 use crate::two::TwoBounds;
 use crate::two::TwoChannelMap;
 use crate::two::TwoFault;
+use crate::two::TwoFixedBounds;
+use crate::two::TwoFixedVerdict;
 use crate::two::TwoFlow;
 use crate::two::TwoFlowSet;
 use crate::two::TwoLimits;
@@ -20,6 +22,8 @@ use crate::two::TwoWritten;
 use model::Bounds;
 use model::ChannelMap;
 use model::Fault;
+use model::FixedBounds;
+use model::FixedVerdict;
 use model::Flow;
 use model::FlowSet;
 use model::Limits;
@@ -228,6 +232,22 @@ pub fn bounds_refused(fault: Fault) -> TwoBounds
     let a = Bounds::refused(fault);
     let b = Bounds::refused(fault);
     TwoBounds(a, b)
+}
+
+pub fn fixed_verdict_refused(fault: Fault) -> TwoFixedVerdict
+    ensures { λ r. ⌜ r .0 ≡ r .1 ⌝ }
+{
+    let a = FixedVerdict::refused(fault);
+    let b = FixedVerdict::refused(fault);
+    TwoFixedVerdict(a, b)
+}
+
+pub fn fixed_bounds_refused(fault: Fault) -> TwoFixedBounds
+    ensures { λ r. ⌜ r .0 ≡ r .1 ⌝ }
+{
+    let a = FixedBounds::refused(fault);
+    let b = FixedBounds::refused(fault);
+    TwoFixedBounds(a, b)
 }
 
 pub fn written_refused(fault: Fault) -> TwoWritten

@@ -1,9 +1,14 @@
 // Two answers of one kind: what a function gave the first time and the second time.
 use delay::AllBounds;
+use delay::AllFixed;
 use model::Bounds;
 use model::BoundsAnswer;
 use model::ChannelMap;
 use model::Fault;
+use model::FixedBounds;
+use model::FixedBoundsAnswer;
+use model::FixedVerdict;
+use model::FixedVerdictAnswer;
 use model::Flow;
 use model::FlowSet;
 use model::Limits;
@@ -94,3 +99,13 @@ pub struct TwoLinesAnswer(pub LinesAnswer, pub LinesAnswer);
 pub struct TwoRowsAnswer(pub RowsAnswer, pub RowsAnswer);
 
 pub struct TwoPart(pub Part, pub Part);
+
+pub struct TwoAllFixed(pub AllFixed, pub AllFixed);
+
+pub struct TwoFixedVerdict(pub FixedVerdict, pub FixedVerdict);
+
+pub struct TwoFixedBounds(pub FixedBounds, pub FixedBounds);
+
+pub struct TwoFixedVerdictAnswer(pub FixedVerdictAnswer, pub FixedVerdictAnswer);
+
+pub struct TwoFixedBoundsAnswer(pub FixedBoundsAnswer, pub FixedBoundsAnswer);

@@ -1,5 +1,6 @@
 -- Document 01, "What is planned, and from what": what C is answered, for every text, flow number, state and buffer. The 68 bytes of a state
--- and what a slot leaves in both buffers stand in `Program`. The calls of request 2, the superframe and its lines, come last.
+-- and what a slot leaves in both buffers stand in `Program`. The calls of request 2, the superframe and its lines, come after
+-- them, and those of request 4 last.
 use mathlib.Core.{Bool.{cond}, List.{List, [], _∷_, _++_}}
 use Prim.Native.Nat.{ℕ, zero, suc}
 use lib.{Dec.{ltb}, ListN.{length, drop}}
@@ -8,9 +9,10 @@ use Rattle.model.specs.declared.answers.{Fault.{Fault}, Refusal.the-variants.{N
 use Rattle.model.specs.declared.answers.{Reading.{Reading}, Verdict.{Verdict}, Bounds.{Bounds}, Written.{Written}}
 use Rattle.model.specs.declared.answers.{VerdictAnswer.{VerdictAnswer}, BoundsAnswer.{BoundsAnswer}, SlotAnswer.{SlotAnswer}, TableAnswer.{TableAnswer}}
 use Rattle.model.specs.declared.answers.{SuperframeAnswer.{SuperframeAnswer}, LinesAnswer.{LinesAnswer}, RowsAnswer.{RowsAnswer}, Tabled.{Tabled}}
-use Rattle.model.specs.{Refusals.{good, refusalNumber, faultAt, noFault, orElse, refusedVerdict, refusedBounds, refusedTable}, Sums.{bit}, Sets.{used}}
+use Rattle.model.specs.declared.answers.{FixedVerdict.{FixedVerdict}, FixedBounds.{FixedBounds}, FixedVerdictAnswer.{FixedVerdictAnswer}, FixedBoundsAnswer.{FixedBoundsAnswer}}
+use Rattle.model.specs.{Refusals.{good, refusalNumber, faultAt, noFault, orElse, refusedVerdict, refusedBounds, refusedFixedVerdict, refusedFixedBounds, refusedTable}, Sums.{bit}, Sets.{used}}
 use Rattle.document.specs.{Reader.{readText}, Delay.{verdictOf, boundsOf}, Program.{slotLinesWith, slotFaultWith}}
-use Rattle.document.specs.{Machine.{Priority, ahead, radioChannel}, Superframe.{sizeAnswer, superframeAnswer, superframeInto, writeTableAnswer, readTableAnswer}}
+use Rattle.document.specs.{Machine.{Priority, ahead, lower, radioChannel}, Fixed.{fixedVerdictOf, fixedBoundsOf}, Superframe.{sizeAnswer, superframeAnswer, superframeInto, writeTableAnswer, readTableAnswer}}
 
 -- the numbers of an answer: the refusal by its number, a test as 1 or 0
 abbrev pub verdictNumbers : Verdict → VerdictAnswer
@@ -145,3 +147,42 @@ readTableForC lines room = readNumbers (readTableAnswer lines room)
 -- the radio channel of an offset in a slot; 0 for a map without channels, and for a number that is no map
 unfoldable pub channelForC : ℕ → ℕ → ℕ → ℕ
 channelForC bits t offset = cond (ltb 65535 bits) 0 (radioChannel bits t offset)
+
+-- request 4: the answers of the test for fixed priority in numbers
+abbrev pub fixedVerdictNumbers : FixedVerdict → FixedVerdictAnswer
+fixedVerdictNumbers a =
+    record {
+      refusal = refusalNumber (a .fault .refusal);
+      line = a .fault .line;
+      field = a .fault .field;
+      admitted = bit (a .admitted);
+      judged = a .judged;
+    }
+
+abbrev pub fixedBoundsNumbers : FixedBounds → FixedBoundsAnswer
+fixedBoundsNumbers a =
+    record {
+      refusal = refusalNumber (a .fault .refusal);
+      line = a .fault .line;
+      field = a .fault .field;
+      work = a .work;
+      bound = a .bound;
+      deadline = a .deadline .0;
+      judged = bit (a .judged);
+    }
+
+unfoldable pub fixedVerdictOfReading : Reading → FixedVerdict
+fixedVerdictOfReading r = cond (good (r .fault .refusal)) (fixedVerdictOf (used (r .set))) (refusedFixedVerdict (r .fault))
+
+unfoldable pub fixedBoundsOfReading : Reading → ℕ → FixedBounds
+fixedBoundsOfReading r flow = cond (good (r .fault .refusal)) (fixedBoundsOf (used (r .set)) flow) (refusedFixedBounds (r .fault))
+
+-- the three calls; the slot is document 01's with the other order
+unfoldable pub fixedVerdictForC : List ℕ → FixedVerdictAnswer
+fixedVerdictForC text = fixedVerdictNumbers (fixedVerdictOfReading (readText text))
+
+unfoldable pub fixedBoundsForC : List ℕ → ℕ → FixedBoundsAnswer
+fixedBoundsForC text flow = fixedBoundsNumbers (fixedBoundsOfReading (readText text) flow)
+
+abbrev pub fixedSlotForC : List ℕ → List ℕ → ℕ → SlotAnswer
+fixedSlotForC = slotForCWith lower

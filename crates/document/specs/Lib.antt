@@ -5,6 +5,7 @@ pub mod Delay
 pub mod Machine
 pub mod Program
 pub mod Superframe
+pub mod Fixed
 pub mod ForC
 pub mod FieldNamed
 pub mod Table

@@ -1,6 +1,7 @@
 -- Document 01, "Sets on either side of a line": P1 to P11, with all that the document says of each, in one table under one theorem; P11 and the
 -- rows after it as request 1 has them; and rows of our own, for what none of these says: starts, several tries beside another flow, offsets,
--- deliveries, the refusals that are only run, a state's bytes, buffers, what C is answered; then the sets of request 2 and the texts of request 3.
+-- deliveries, the refusals that are only run, a state's bytes, buffers, what C is answered; then the sets of request 2, the texts of request 3
+-- and the sets of request 4.
 -- The sets are their texts, run through the reader's definition; the checker computes the rest.
 use mathlib.Core.{Bool.{Bool, true, false, not, _&&_}, List.{List, [], _∷_, _++_}}
 use Prim.Native.{Char.{code}, Nat.{ℕ, zero, suc, _+_}}
@@ -10,14 +11,17 @@ use Rattle.model.specs.declared.kinds.FlowSet.{FlowSet}
 use Rattle.model.specs.declared.answers.{Fault.{Fault}, Reading.{Reading}, Send.{Send}, Delivery.{Delivery}, Stepped.{Stepped}, Written.{Written}}
 use Rattle.model.specs.declared.answers.{VerdictAnswer.{VerdictAnswer}, BoundsAnswer.{BoundsAnswer}, SlotAnswer.{SlotAnswer}, TableAnswer.{TableAnswer}}
 use Rattle.model.specs.declared.answers.{SuperframeAnswer.{SuperframeAnswer}, LinesAnswer.{LinesAnswer}, RowsAnswer.{RowsAnswer}}
-use Rattle.model.specs.{Refusals.{refusalNumber}, Sums.{sumTo, anyTo, allTo}, Sets.{flowAt, used, anyOf, meet, listTo, filterTo}}
+use Rattle.model.specs.declared.answers.{FixedVerdictAnswer.{FixedVerdictAnswer}, FixedBoundsAnswer.{FixedBoundsAnswer}}
+use Rattle.model.specs.{Refusals.{refusalNumber}, Sums.{bit, sumTo, anyTo, allTo}, Sets.{flowAt, used, anyOf, meet, listTo, filterTo}}
 use Rattle.document.specs.Text.{same, lines, ended, fields, allDigits, valueFrom, isNumber, allNumbers, valuesOf, wellFormed, numbersOf, decimalIn, decimal, tabbed, decimals, lineOf}
 use Rattle.document.specs.Reader.{repeatAt, flowFault, flowsFault, recordFault, flowOf, withFlow, firstLineFault, flowLineFault, firstLineField, flowLineField, readFlows, setOf, readLines, readText, flowLines, textOf, pad, writeFault, writeAnswer, writeInto}
 use Rattle.document.specs.BadField.{firstBreaking}
 use Rattle.document.specs.Delay.{conflictWork, share, overOthers, boundWith, basicBound, valueAt, deadlines, lowered, roundTo, roundsIn, reached, tightBound, admits, verdictOf, boundsFault, boundsOf}
-use Rattle.document.specs.Machine.{ready, nextCount, insert, ordered, place, channelsTo, radioChannel, sendOf, sendsFrom, sendsAt, deliveriesOf, droppedAt, badState, stepFault, stepOf, runOf, countWith, deliveredWith, droppedWith, nextWith, placedWith, runWith, stepWith}
+use Rattle.document.specs.Machine.{lower, ready, nextCount, insert, ordered, place, channelsTo, radioChannel, sendOf, sendsFrom, sendsAt, deliveriesOf, droppedAt, badState, stepFault, stepOf, runOf, countWith, deliveredWith, droppedWith, nextWith, placedWith, runWith, stepWith}
 use Rattle.document.specs.Program.{stateLength, stateBytes, stateOf, sendNumbers, sendLines, slotLinesWith, slotFaultWith, slotState, slotStateWith, slotBuffer, slotBufferWith, boundLines, runLinesWith, planOf, printText, planText}
 use Rattle.document.specs.ForC.{verdictOfReading, boundsOfReading, slotAnswerWith, boundsRows, tableFault, tableAnswer, tableAfter, verdictForC, boundsForC, slotForC, slotForCWith, allBoundsForC}
+use Rattle.document.specs.ForC.{fixedVerdictOfReading, fixedBoundsOfReading, fixedVerdictForC, fixedBoundsForC, fixedSlotForC}
+use Rattle.document.specs.Fixed.{fixedStep, fixedRun, boundAfter, someOver, judgeNext, fixedTo, fixedBound, judged, fixedVerdictOf, fixedBoundsOf, fixedBoundLines, fixedOf, fixedText}
 use Rattle.document.specs.ForC.{sizeOfReading, superframeOfReading, superframeAfter, sizeForC, superframeForC, writeTableForC, readTableForC, channelForC}
 use Rattle.document.specs.Superframe.{multipleFrom, lcm, hyperTo, hyper, rowsFrom, rowsTo, rowsToWith, superframe, flat, sizeFault, superframeFault, sizeAnswer, superframeAnswer, superframeInto, rowLines, rowsIn, writeTableAnswer, writeTableInto, rowFormed, rowOf, above, linesFault, readTableFault, readTableAnswer, readTableInto, superframeText}
 
@@ -70,6 +74,13 @@ pub data Claim : Type 0 where
   linesC : List ℕ → string.String → List ℕ → string.String → Claim
   -- lines read for C: the table; refusal, line, numbers; the table after it
   rowsC : string.String → List ℕ → List ℕ → List ℕ → Claim
+  fixedBounds : List ℕ → List ℕ → Claim  -- with fixed priority: the bounds; of each flow 1 if it is judged
+  fixedVerdict : Bool → ℕ → Claim  -- admitted, how many are judged
+  fixedReport : ℕ → List (List ℕ) → List (List ℕ) → List ℕ → Claim  -- a slot of the run, as in `report`
+  fixedPlan : List string.String → Claim  -- what the program `fixed` prints, line by line
+  fixedVerdictC : List ℕ → Claim  -- what C is answered: refusal, line, field, admitted, judged
+  fixedBoundsC : ℕ → List ℕ → Claim  -- flow; refusal, line, field, C, bound, deadline, judged
+  fixedSlotC : List ℕ → string.String → List ℕ → List ℕ → string.String → Claim  -- one slot for C, as in `slotC`
 
 sameRows : List (List ℕ) → List (List ℕ) → Bool
 sameRows [] [] = true
@@ -112,6 +123,12 @@ linesRow a = a .refusal ∷ a .line ∷ a .length ∷ []
 
 rowsRow : RowsAnswer → List ℕ
 rowsRow a = a .refusal ∷ a .line ∷ a .numbers ∷ []
+
+fixedVerdictRow : FixedVerdictAnswer → List ℕ
+fixedVerdictRow v = v .refusal ∷ v .line ∷ v .field ∷ v .admitted ∷ v .judged ∷ []
+
+fixedBoundsRow : FixedBoundsAnswer → List ℕ
+fixedBoundsRow b = b .refusal ∷ b .line ∷ b .field ∷ b .work ∷ b .bound ∷ b .deadline ∷ b .judged ∷ []
 
 offsetRows : List Send → List (List ℕ)
 offsetRows [] = []
@@ -175,6 +192,17 @@ holds text r s (frame p) = same (superframeText text) (bytesOf p)
 holds text r s (channelC t o c) = eqb (channelForC (s .map .0) t o) c
 holds text r s (channelOf m c) = eqb (channelForC m 0 0) c
 holds text r s (linesC t b ns b') = same (linesRow (writeTableForC t (length (bytes b)))) ns && same (writeTableInto t (bytes b)) (bytes b')
+holds text r s (fixedBounds bs js) =
+    same (listTo (λ k. fixedBoundsOf s k .bound) (s .count)) bs && same (listTo (λ k. bit (fixedBoundsOf s k .judged)) (s .count)) js
+holds text r s (fixedVerdict a n) = same? (fixedVerdictOf s .admitted) a && eqb (fixedVerdictOf s .judged) n
+holds text r s (fixedReport t xs ds ks) = reportHolds (fixedStep s (fixedRun s t .last)) xs ds ks
+holds text r s (fixedPlan p) = same (fixedText text) (bytesOf p)
+holds text r s (fixedVerdictC ns) = same (fixedVerdictRow (fixedVerdictForC text)) ns
+holds text r s (fixedBoundsC k ns) = same (fixedBoundsRow (fixedBoundsForC text k)) ns
+holds text r s (fixedSlotC st b ns st' b') =
+    same (slotRow (fixedSlotForC text (pad stateLength st) (length (bytes b)))) ns
+    && same (slotStateWith lower r (pad stateLength st) (length (bytes b))) (pad stateLength st')
+    && same (slotBufferWith lower r (pad stateLength st) (bytes b)) (bytes b')
 holds text r s (rowsC l b ns b') = same (rowsRow (readTableForC (bytes l) (length b))) ns && same (readTableInto (bytes l) b) b'
 
 allHold : List ℕ → Reading → List Claim → Bool
@@ -668,8 +696,106 @@ points =
     (refused 7 2 0
     ∷ []
     )
+    -- request 4: P1 and P5 with fixed priority; X1 and X2, the same two flows in either order; X3, flows after the first over its deadline; X4, where
+    -- the bound of l counts; X5, where n is rounded up; no flows; what is refused
+    ∷ point "set\t3\nflow\t10\t8\t0\t1\t1\t2\t3\nflow\t20\t20\t0\t1\t4\t2\t5\n"
+    (fixedBounds (2 ∷ 8 ∷ []) (1 ∷ 1 ∷ [])
+    ∷ fixedPlan
+    ("fixed\t1\t2\n"
+    ∷ "bound\t0\t2\t2\t8\t1\n"
+    ∷ "bound\t1\t2\t8\t20\t1\n"
+    ∷ "send\t0\t0\t1\t2\t0\t11\n"
+    ∷ "send\t1\t0\t2\t3\t0\t12\n"
+    ∷ "send\t2\t1\t4\t2\t0\t11\n"
+    ∷ "send\t3\t1\t2\t5\t0\t12\n"
+    ∷ "send\t10\t0\t1\t2\t0\t11\n"
+    ∷ "send\t11\t0\t2\t3\t0\t12\n"
+    ∷ []
+    )
+    ∷ []
+    )
+    ∷ point "set\t1\nflow\t10\t2\t0\t1\t1\t2\nflow\t10\t2\t0\t1\t3\t4\n"
+    (fixedBounds (1 ∷ 2 ∷ []) (1 ∷ 1 ∷ [])
+    ∷ fixedVerdict true 2
+    ∷ []
+    )
+    ∷ point "set\t1\nflow\t10\t10\t0\t1\t1\t2\t3\nflow\t10\t2\t0\t1\t4\t5\n"
+    (tights (3 ∷ 1 ∷ [])
+    ∷ verdict false true
+    ∷ fixedBounds (2 ∷ 3 ∷ []) (1 ∷ 1 ∷ [])
+    ∷ fixedReport 1 ((1 ∷ 0 ∷ 2 ∷ 3 ∷ 0 ∷ 0 ∷ 11 ∷ []) ∷ []) ((0 ∷ 2 ∷ []) ∷ []) (1 ∷ [])
+    ∷ fixedPlan
+    ("fixed\t0\t2\n"
+    ∷ "bound\t0\t2\t2\t10\t1\n"
+    ∷ "bound\t1\t1\t3\t2\t1\n"
+    ∷ "send\t0\t0\t1\t2\t0\t11\n"
+    ∷ "send\t1\t0\t2\t3\t0\t11\n"
+    ∷ "send\t10\t0\t1\t2\t0\t11\n"
+    ∷ "send\t11\t0\t2\t3\t0\t11\n"
+    ∷ []
+    )
+    ∷ fixedSlotC [] "...................." (0 ∷ 0 ∷ 0 ∷ 18 ∷ []) (1 ∷ 0 ∷ 0 ∷ 0 ∷ 1 ∷ []) "send\t0\t0\t1\t2\t0\t11\n.."
+    ∷ fixedSlotC [] "................." (10 ∷ 0 ∷ 0 ∷ 0 ∷ []) [] "................."
+    ∷ []
+    )
+    ∷ point "set\t1\nflow\t10\t2\t0\t1\t4\t5\nflow\t10\t10\t0\t1\t1\t2\t3\n"
+    (tights (1 ∷ 3 ∷ [])
+    ∷ fixedBounds (1 ∷ 3 ∷ []) (1 ∷ 1 ∷ [])
+    ∷ fixedVerdict true 2
+    ∷ fixedReport 0 ((0 ∷ 0 ∷ 4 ∷ 5 ∷ 0 ∷ 0 ∷ 11 ∷ []) ∷ []) ((0 ∷ 1 ∷ []) ∷ []) []
+    ∷ fixedReport 1 ((1 ∷ 1 ∷ 1 ∷ 2 ∷ 0 ∷ 0 ∷ 11 ∷ []) ∷ []) [] []
+    ∷ fixedReport 2 ((2 ∷ 1 ∷ 2 ∷ 3 ∷ 0 ∷ 0 ∷ 11 ∷ []) ∷ []) ((1 ∷ 3 ∷ []) ∷ []) []
+    ∷ fixedVerdictC (0 ∷ 0 ∷ 0 ∷ 1 ∷ 2 ∷ [])
+    ∷ fixedBoundsC 1 (0 ∷ 0 ∷ 0 ∷ 2 ∷ 3 ∷ 10 ∷ 1 ∷ [])
+    ∷ fixedBoundsC 2 (13 ∷ 0 ∷ 0 ∷ 0 ∷ 0 ∷ 0 ∷ 0 ∷ [])
+    ∷ []
+    )
+    ∷ point "set\t15\nflow\t10\t1\t0\t1\t1\t2\nflow\t10\t1\t0\t1\t3\t4\nflow\t10\t1\t0\t1\t5\t6\nflow\t10\t1\t0\t1\t7\t8\nflow\t10\t1\t0\t1\t9\t10\nflow\t10\t9\t0\t1\t11\t12\n"
+    (fixedBounds (1 ∷ 1 ∷ 1 ∷ 1 ∷ 2 ∷ 0 ∷ []) (1 ∷ 1 ∷ 1 ∷ 1 ∷ 1 ∷ 0 ∷ [])
+    ∷ fixedVerdict false 5
+    ∷ fixedReport 0
+    ((0 ∷ 0 ∷ 1 ∷ 2 ∷ 0 ∷ 0 ∷ 11 ∷ [])
+    ∷ (0 ∷ 1 ∷ 3 ∷ 4 ∷ 0 ∷ 1 ∷ 12 ∷ [])
+    ∷ (0 ∷ 2 ∷ 5 ∷ 6 ∷ 0 ∷ 2 ∷ 13 ∷ [])
+    ∷ (0 ∷ 3 ∷ 7 ∷ 8 ∷ 0 ∷ 3 ∷ 14 ∷ [])
+    ∷ []
+    )
+    ((0 ∷ 1 ∷ []) ∷ (1 ∷ 1 ∷ []) ∷ (2 ∷ 1 ∷ []) ∷ (3 ∷ 1 ∷ []) ∷ [])
+    (4 ∷ [])
+    ∷ fixedBoundsC 5 (0 ∷ 0 ∷ 0 ∷ 1 ∷ 0 ∷ 9 ∷ 0 ∷ [])
+    ∷ []
+    )
+    ∷ point "set\t7\nflow\t24\t2\t0\t2\t1\t2\nflow\t4\t4\t0\t2\t2\t3\nflow\t24\t4\t2\t1\t3\t4\n"
+    (fixedBounds (2 ∷ 4 ∷ 5 ∷ []) (1 ∷ 1 ∷ 1 ∷ [])
+    ∷ fixedVerdict false 3
+    ∷ fixedReport 5 ((5 ∷ 1 ∷ 2 ∷ 3 ∷ 1 ∷ 0 ∷ 13 ∷ []) ∷ []) ((1 ∷ 2 ∷ []) ∷ []) (2 ∷ [])
+    ∷ []
+    )
+    ∷ point "set\t1\nflow\t3\t2\t1\t1\t1\t2\nflow\t2\t2\t3\t1\t2\t3\n"
+    (fixedBounds (1 ∷ 2 ∷ []) (1 ∷ 1 ∷ [])
+    ∷ fixedVerdict true 2
+    ∷ fixedReport 8 ((8 ∷ 1 ∷ 2 ∷ 3 ∷ 0 ∷ 0 ∷ 11 ∷ []) ∷ []) ((1 ∷ 2 ∷ []) ∷ []) []
+    ∷ []
+    )
+    -- ours: the two orders' lines have different lengths
+    ∷ point "set\t1\nflow\t10\t10\t0\t1\t10\t20\t30\nflow\t10\t2\t0\t1\t4\t5\n"
+    (fixedSlotC [] "...................." (0 ∷ 0 ∷ 0 ∷ 20 ∷ []) (1 ∷ 0 ∷ 0 ∷ 0 ∷ 1 ∷ []) "send\t0\t0\t10\t20\t0\t11\n"
+    ∷ slotC [] "...................." (0 ∷ 0 ∷ 0 ∷ 18 ∷ []) (1 ∷ 0 ∷ 0 ∷ 0 ∷ 0 ∷ 1 ∷ []) "send\t0\t1\t4\t5\t0\t11\n.."
+    ∷ []
+    )
+    ∷ point "set\t1\n"
+    (fixedVerdict true 0
+    ∷ fixedPlan ("fixed\t1\t0\n" ∷ [])
+    ∷ []
+    )
+    ∷ point "set\t0\n"
+    (fixedVerdictC (2 ∷ 1 ∷ 2 ∷ 0 ∷ 0 ∷ [])
+    ∷ fixedBoundsC 0 (2 ∷ 1 ∷ 2 ∷ 0 ∷ 0 ∷ 0 ∷ 0 ∷ [])
+    ∷ fixedPlan ("refused\t2\t1\t2\n" ∷ [])
+    ∷ []
+    )
     ∷ []
 
 pub every-point : T (every points)
-unfolding every points point allHold holds same? sameSigned faultIs writtenRow slotRow offsetRows deliveryRows reportHolds sendRowsTo flowsOf rows sameRows bytes bytesOf same lines ended fields allDigits valueFrom isNumber allNumbers valuesOf wellFormed numbersOf decimalIn decimal tabbed decimals lineOf repeatAt flowFault flowsFault recordFault flowOf withFlow firstLineFault flowLineFault firstBreaking firstLineField flowLineField readFlows setOf readLines readText flowLines textOf writeFault writeAnswer writeInto conflictWork share overOthers boundWith basicBound valueAt deadlines lowered roundTo roundsIn reached tightBound admits verdictOf boundsFault boundsOf ready nextCount insert ordered place placedWith channelsTo radioChannel sendOf sendsFrom countWith deliveredWith deliveriesOf droppedWith nextWith badState stepFault stepWith runWith stateBytes stateOf sendLines slotLinesWith slotFaultWith slotStateWith slotBufferWith boundLines runLinesWith planOf printText verdictOfReading boundsOfReading slotAnswerWith boundsRows tableFault tableAnswer tableAfter verdictForC boundsForC slotForCWith allBoundsForC sizeOfReading superframeOfReading superframeAfter sizeForC superframeForC writeTableForC readTableForC channelForC multipleFrom lcm hyperTo rowsFrom rowsToWith flat sizeFault superframeFault sizeAnswer superframeAnswer superframeInto rowLines rowsIn writeTableAnswer writeTableInto rowFormed rowOf above linesFault readTableFault readTableAnswer readTableInto superframeText frameRow tableRow linesRow rowsRow verdictRow boundsAnswerRow sumTo anyTo allTo used anyOf meet listTo filterTo ones onesIn
+unfolding every points point allHold holds same? sameSigned faultIs writtenRow slotRow offsetRows deliveryRows reportHolds sendRowsTo flowsOf rows sameRows bytes bytesOf same lines ended fields allDigits valueFrom isNumber allNumbers valuesOf wellFormed numbersOf decimalIn decimal tabbed decimals lineOf repeatAt flowFault flowsFault recordFault flowOf withFlow firstLineFault flowLineFault firstBreaking firstLineField flowLineField readFlows setOf readLines readText flowLines textOf writeFault writeAnswer writeInto conflictWork share overOthers boundWith basicBound valueAt deadlines lowered roundTo roundsIn reached tightBound admits verdictOf boundsFault boundsOf ready nextCount insert ordered place placedWith channelsTo radioChannel sendOf sendsFrom countWith deliveredWith deliveriesOf droppedWith nextWith badState stepFault stepWith runWith stateBytes stateOf sendLines slotLinesWith slotFaultWith slotStateWith slotBufferWith boundLines runLinesWith planOf printText boundAfter someOver judgeNext fixedTo fixedBound judged fixedVerdictOf fixedBoundsOf fixedBoundLines fixedOf fixedVerdictOfReading fixedBoundsOfReading fixedVerdictForC fixedBoundsForC fixedVerdictRow fixedBoundsRow verdictOfReading boundsOfReading slotAnswerWith boundsRows tableFault tableAnswer tableAfter verdictForC boundsForC slotForCWith allBoundsForC sizeOfReading superframeOfReading superframeAfter sizeForC superframeForC writeTableForC readTableForC channelForC multipleFrom lcm hyperTo rowsFrom rowsToWith flat sizeFault superframeFault sizeAnswer superframeAnswer superframeInto rowLines rowsIn writeTableAnswer writeTableInto rowFormed rowOf above linesFault readTableFault readTableAnswer readTableInto superframeText frameRow tableRow linesRow rowsRow verdictRow boundsAnswerRow sumTo anyTo allTo used anyOf meet listTo filterTo ones onesIn
 every-point = tt

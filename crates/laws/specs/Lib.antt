@@ -11,6 +11,7 @@ pub mod Values
 pub mod Rounds
 pub mod Largest
 pub mod TestAnswers
+pub mod FixedBounds
 pub mod Codes
 pub mod Nodes
 pub mod WrittenNumbers

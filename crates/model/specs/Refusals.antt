@@ -2,7 +2,7 @@
 use mathlib.Core.{Bool.{Bool, false, cond}, List.{List, [], _∷_}}
 use Prim.Native.Nat.{ℕ}
 use lib.{Dec.{eqb}, IntN.{pos}}
-use Rattle.model.specs.declared.answers.{Bounds.{Bounds}, Fault.{Fault}, NumberRead.{NumberRead}, Refusal.{Refusal}, Tabled.{Tabled}, Verdict.{Verdict}}
+use Rattle.model.specs.declared.answers.{Bounds.{Bounds}, Fault.{Fault}, FixedBounds.{FixedBounds}, FixedVerdict.{FixedVerdict}, NumberRead.{NumberRead}, Refusal.{Refusal}, Tabled.{Tabled}, Verdict.{Verdict}}
 use Rattle.model.specs.declared.answers.NumberRead.the-variants.{Value, Refused}
 use Rattle.model.specs.declared.answers.Refusal.the-variants.{Nothing, BadForm, NoChannel, TooManyFlows, BadPeriod, BadDeadline, BadTries, BadRoute, EqualNeighbours, TooMuchWork, NoRoom, AtLastSlot, BadState, NoSuchFlow, NotAdmitted, LateStart, LongHyperPeriod}
 
@@ -56,6 +56,12 @@ refusedVerdict f = record { fault = f; basic = false; tightened = false; rounds 
 
 abbrev pub refusedBounds : Fault → Bounds
 refusedBounds f = record { fault = f; work = 0; basic = 0; tightened = 0; deadline = record { 0 = 0 }; margin = pos 0 }
+
+abbrev pub refusedFixedVerdict : Fault → FixedVerdict
+refusedFixedVerdict f = record { fault = f; admitted = false; judged = 0 }
+
+abbrev pub refusedFixedBounds : Fault → FixedBounds
+refusedFixedBounds f = record { fault = f; work = 0; bound = 0; deadline = record { 0 = 0 }; judged = false }
 
 -- a refused table has no slots and no numbers
 abbrev pub refusedTable : Fault → Tabled

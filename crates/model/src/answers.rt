@@ -2,7 +2,7 @@
 ghost use mathlib.Core.Bool.{not};
 ghost use mathlib.Core.Path.{_≡_};
 ghost use Prim.Native.Nat.{_≤_};
-ghost use Rattle.model.specs.Refusals.{refusalNumber, good, faultAt, noFault, orElse, refusedVerdict, refusedBounds, refusedTable};
+ghost use Rattle.model.specs.Refusals.{refusalNumber, good, faultAt, noFault, orElse, refusedVerdict, refusedBounds, refusedFixedVerdict, refusedFixedBounds, refusedTable};
 ghost use Rattle.model.specs.Sums.{bit};
 use crate::kinds::ChannelMap;
 use crate::kinds::Flow;
@@ -180,6 +180,50 @@ impl Bounds {
     }
 }
 
+// Request 4's test for fixed priority: whether it admits, and how many flows were judged.
+pub struct FixedVerdict {
+    pub fault: Fault,
+    pub admitted: bool,
+    pub judged: u32,
+}
+
+impl FixedVerdict {
+    // A refusal, not admitted, no flow judged.
+    pub fn refused(fault: Fault) -> FixedVerdict
+        ensures { λ r. ⌜ r ≡ refusedFixedVerdict fault ⌝ }
+    {
+        FixedVerdict {
+            fault,
+            admitted: false,
+            judged: 0,
+        }
+    }
+}
+
+// One flow's bound by the test for fixed priority; 0 for a flow that is not judged. `work` is C.
+pub struct FixedBounds {
+    pub fault: Fault,
+    pub work: u32,
+    pub bound: u32,
+    pub deadline: Span,
+    pub judged: bool,
+}
+
+impl FixedBounds {
+    // A refusal, every number 0, not judged.
+    pub fn refused(fault: Fault) -> FixedBounds
+        ensures { λ r. ⌜ r ≡ refusedFixedBounds fault ⌝ }
+    {
+        FixedBounds {
+            fault,
+            work: 0,
+            bound: 0,
+            deadline: Span(0),
+            judged: false,
+        }
+    }
+}
+
 // What stands in a lent table: how many numbers, and how many slots they are for (0 where they were read from lines).
 pub struct Tabled {
     pub fault: Fault,
@@ -283,6 +327,26 @@ pub struct TableAnswer {
     pub line: usize,
     pub field: usize,
     pub numbers: usize,
+}
+
+#[repr(C)]
+pub struct FixedVerdictAnswer {
+    pub refusal: u32,
+    pub line: usize,
+    pub field: usize,
+    pub admitted: u32,
+    pub judged: u32,
+}
+
+#[repr(C)]
+pub struct FixedBoundsAnswer {
+    pub refusal: u32,
+    pub line: usize,
+    pub field: usize,
+    pub work: u32,
+    pub bound: u32,
+    pub deadline: u32,
+    pub judged: u32,
 }
 
 // How many 16-bit numbers the table of a superframe has, and how many slots.

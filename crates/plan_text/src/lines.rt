@@ -29,8 +29,8 @@ use text::put_sends;
 // A plan has the `send` lines of slots 0 to 11.
 const SLOTS: usize = 12;
 
-// The `send` lines of the first twelve slots, in an order of priority.
-fn put_run(by: Order, out: &mut [u8], at: usize, s: FlowSet) -> usize
+// The `send` lines of the first twelve slots, with either order of priority.
+pub fn put_run(by: Order, out: &mut [u8], at: usize, s: FlowSet) -> usize
     requires { ⌜ good (recordFault (used s) .refusal) ≡ true ⌝ }
     ensures { λ r. ⌜ Put (now (out .entry)) at (runLinesWith (orderOf by) (used s) 12) (now (out .exit)) r ⌝ }
 {

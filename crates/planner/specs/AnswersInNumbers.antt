@@ -15,7 +15,8 @@ use Rattle.model.specs.declared.answers.SuperframeAnswer.{SuperframeAnswer}
 use Rattle.model.specs.declared.answers.LinesAnswer.{LinesAnswer}
 use Rattle.model.specs.declared.answers.RowsAnswer.{RowsAnswer}
 use Rattle.model.specs.declared.answers.Tabled.{Tabled}
-use Rattle.document.specs.ForC.{boundsNumbers, linesNumbers, readNumbers, slotNumbers, superframeNumbers, tableNumbers, verdictNumbers}
+use Rattle.model.specs.declared.answers.{FixedVerdict.{FixedVerdict}, FixedBounds.{FixedBounds}, FixedVerdictAnswer.{FixedVerdictAnswer}, FixedBoundsAnswer.{FixedBoundsAnswer}}
+use Rattle.document.specs.ForC.{boundsNumbers, fixedBoundsNumbers, fixedVerdictNumbers, linesNumbers, readNumbers, slotNumbers, superframeNumbers, tableNumbers, verdictNumbers}
 
 abbrev verdictWith : Verdict → ℕ → ℕ → ℕ → VerdictAnswer
 verdictWith v n b t = record { refusal = n; line = v .fault .line; field = v .fault .field; basic = b; tightened = t; rounds = v .rounds }
@@ -69,3 +70,26 @@ readWith a n = record { refusal = n; line = a .fault .line; numbers = a .numbers
 
 pub read-numbers : (a : Tabled) (n : ℕ) → n ≡ refusalNumber (a .fault .refusal) → readWith a n ≡ readNumbers a
 read-numbers a n e = rw e
+
+abbrev fixedVerdictWith : FixedVerdict → ℕ → ℕ → FixedVerdictAnswer
+fixedVerdictWith v n a = record { refusal = n; line = v .fault .line; field = v .fault .field; admitted = a; judged = v .judged }
+
+pub fixed-verdict-numbers : (v : FixedVerdict) (n a : ℕ) → n ≡ refusalNumber (v .fault .refusal) → a ≡ bit (v .admitted)
+    → fixedVerdictWith v n a ≡ fixedVerdictNumbers v
+fixed-verdict-numbers v n a e f = rw (e, f)
+
+abbrev fixedBoundsWith : FixedBounds → ℕ → ℕ → FixedBoundsAnswer
+fixedBoundsWith b n j =
+    record {
+      refusal = n;
+      line = b .fault .line;
+      field = b .fault .field;
+      work = b .work;
+      bound = b .bound;
+      deadline = b .deadline .0;
+      judged = j;
+    }
+
+pub fixed-bounds-numbers : (b : FixedBounds) (n j : ℕ) → n ≡ refusalNumber (b .fault .refusal) → j ≡ bit (b .judged)
+    → fixedBoundsWith b n j ≡ fixedBoundsNumbers b
+fixed-bounds-numbers b n j e f = rw (e, f)

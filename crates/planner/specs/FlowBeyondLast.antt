@@ -8,9 +8,10 @@ use lib.Dec.{ltb}
 use Rattle.model.specs.declared.kinds.FlowSet.{FlowSet}
 use Rattle.model.specs.declared.answers.Fault.{Fault}
 use Rattle.model.specs.declared.answers.Refusal.the-variants.{NoSuchFlow}
-use Rattle.model.specs.Refusals.{good, orElse, faultAt, refusedBounds}
+use Rattle.model.specs.Refusals.{good, orElse, faultAt, refusedBounds, refusedFixedBounds}
 use Rattle.model.specs.Sets.{used}
 use Rattle.document.specs.Delay.{boundsOf, boundsFault, boundsIf}
+use Rattle.document.specs.Fixed.{fixedBoundsOf, fixedBoundsIf}
 use Rattle.document.specs.Reader.{recordFault}
 use Rattle.laws.specs.Used.{used-count}
 
@@ -29,18 +30,28 @@ never-good f = go (good (f .refusal)) refl
     go true e = refl
     go false e = e
 
--- beyond the last flow every number has the same answer
-bounds-beyond : (s : FlowSet) (k : ℕ) → s .count ≤ k → boundsOf s k ≡ refusedBounds (noSuch s)
-unfolding boundsOf
-bounds-beyond s k h =
-    ap (boundsIf s k) (ap (λ (f : Fault). good (f .refusal)) (fault-beyond s k h) ∙ never-good (recordFault s))
-    ∙ ap refusedBounds (fault-beyond s k h)
+-- Of an answer that is refused where `boundsFault` refuses: beyond the last flow every number has the same,
+module _ {A : Type 0} (refused : Fault → A) (answer : FlowSet → ℕ → A)
+    (refuses : (s : FlowSet) (k : ℕ) → good (boundsFault s k .refusal) ≡ false → answer s k ≡ refused (boundsFault s k)) where
+  beyond : (s : FlowSet) (k : ℕ) → s .count ≤ k → answer s k ≡ refused (noSuch s)
+  beyond s k h =
+      refuses s k (ap (λ (f : Fault). good (f .refusal)) (fault-beyond s k h) ∙ never-good (recordFault s)) ∙ ap refused (fault-beyond s k h)
 
+  -- so a number may be cut to the count.
+  cut : (s : FlowSet) (flow : ℕ) → answer (used s) (cond (ltb flow (s .count)) flow (s .count)) ≡ answer (used s) flow
+  cut s flow = go (ltb flow (s .count)) refl
+    where
+      go : (b : Bool) → ltb flow (s .count) ≡ b → answer (used s) (cond b flow (s .count)) ≡ answer (used s) flow
+      go true e = refl
+      go false e =
+          beyond (used s) (s .count) (rw (used-count s) (le-refl (s .count)))
+          ∙ sym (beyond (used s) flow (rw (used-count s) (ltb-false flow (s .count) e)))
+
+-- document 01's bounds, and the bound with fixed priority
 pub bounds-cut : (s : FlowSet) (flow : ℕ) → boundsOf (used s) (cond (ltb flow (s .count)) flow (s .count)) ≡ boundsOf (used s) flow
-bounds-cut s flow = go (ltb flow (s .count)) refl
-  where
-    go : (b : Bool) → ltb flow (s .count) ≡ b → boundsOf (used s) (cond b flow (s .count)) ≡ boundsOf (used s) flow
-    go true e = refl
-    go false e =
-        bounds-beyond (used s) (s .count) (rw (used-count s) (le-refl (s .count)))
-        ∙ sym (bounds-beyond (used s) flow (rw (used-count s) (ltb-false flow (s .count) e)))
+unfolding boundsOf
+bounds-cut = cut refusedBounds boundsOf (λ s k. ap (boundsIf s k))
+
+pub fixed-cut : (s : FlowSet) (flow : ℕ) → fixedBoundsOf (used s) (cond (ltb flow (s .count)) flow (s .count)) ≡ fixedBoundsOf (used s) flow
+unfolding fixedBoundsOf
+fixed-cut = cut refusedFixedBounds fixedBoundsOf (λ s k. ap (fixedBoundsIf s k))

@@ -14,7 +14,7 @@ use model::Written;
 use model::bit;
 
 // A flow's number in 16 bits, as the delay tests take it; the count where the number is not below the count, since neither is a flow's.
-fn flow_number(flow: u32, count: u16) -> u16
+pub fn flow_number(flow: u32, count: u16) -> u16
     ensures { λ r. ⌜ r ≡ cond (ltb flow count) flow count ⌝ }
 {
     if flow < count as u32 {

@@ -1,13 +1,17 @@
-// What C calls: the verdict, one flow's bounds, those of all flows, one slot and the superframe, over a set's text; a table's lines; a radio channel.
+// What C calls: the verdict, one flow's bounds, those of all flows, one slot and the superframe, over a set's text; a table's lines; a radio channel;
+// the verdict, one flow's bound and one slot with fixed priority.
 ghost use mathlib.Core.Path.{_≡_};
 ghost use lib.ListN.{length};
 ghost use Rattle.document.specs.Reader.{readText};
-ghost use Rattle.document.specs.Program.{slotBuffer, slotState};
+ghost use Rattle.document.specs.Machine.{lower};
+ghost use Rattle.document.specs.Program.{slotBuffer, slotBufferWith, slotState, slotStateWith};
 ghost use Rattle.document.specs.Superframe.{readTableInto, writeTableInto};
 ghost use Rattle.document.specs.ForC.{allBoundsForC, boundsForC, slotForC, tableAfter, verdictForC};
 ghost use Rattle.document.specs.ForC.{channelForC, readTableForC, sizeForC, superframeAfter, superframeForC, writeTableForC};
+ghost use Rattle.document.specs.ForC.{fixedBoundsForC, fixedSlotForC, fixedVerdictForC};
 
 mod answers;
+mod fixed;
 mod slots;
 mod state_bytes;
 mod superframes;
@@ -16,7 +20,11 @@ mod tables;
 pub use answers::bounds_numbers;
 pub use answers::slot_numbers;
 pub use answers::verdict_numbers;
+pub use fixed::fixed_bounds_numbers;
+pub use fixed::fixed_verdict_numbers;
 use model::BoundsAnswer;
+use model::FixedBoundsAnswer;
+use model::FixedVerdictAnswer;
 use model::LinesAnswer;
 use model::Order;
 use model::RowsAnswer;
@@ -66,9 +74,7 @@ pub extern "C" fn rembasuk_slot(text: &[u8], state: &mut [u8], lines: &mut [u8])
     ensures { λ r. ⌜ now (state .exit) ≡ slotState (readText (now (text .entry))) (now (state .entry)) (length (now (lines .entry))) ⌝ }
     ensures { λ r. ⌜ now (lines .exit) ≡ slotBuffer (readText (now (text .entry))) (now (state .entry)) (now (lines .entry)) ⌝ }
 {
-    let reading = text::read(text);
-    let written = slots::slot_of_reading(Order::Deadline, reading, state, lines);
-    slot_numbers(written)
+    slots::slot_of_text(Order::Deadline, text, state, lines)
 }
 
 // How long the superframe of the set in `text` is: its slots, and the numbers that its table needs. The text's refusals, then 14, 15, 16.
@@ -119,4 +125,35 @@ pub extern "C" fn rembasuk_channel(map: u32, slot: u32, offset: u32) -> u32
     ensures { λ r. ⌜ r ≡ channelForC map slot offset ⌝ }
 {
     superframes::channel_of(map, slot, offset)
+}
+
+// The verdict of the test for fixed priority of the set in `text`; a text that is refused has the reader's refusal, line and field, and zeros.
+#[no_mangle]
+pub extern "C" fn rembasuk_fixed_verdict(text: &[u8]) -> FixedVerdictAnswer
+    ensures { λ r. ⌜ r ≡ fixedVerdictForC (now (text .entry)) ⌝ }
+{
+    let reading = text::read(text);
+    let verdict = fixed::verdict_of_reading(reading);
+    fixed_verdict_numbers(verdict)
+}
+
+// The bound of one flow of the set in `text` with fixed priority: the text's refusals, then 13.
+#[no_mangle]
+pub extern "C" fn rembasuk_fixed_bounds(text: &[u8], flow: u32) -> FixedBoundsAnswer
+    ensures { λ r. ⌜ r ≡ fixedBoundsForC (now (text .entry)) flow ⌝ }
+{
+    let reading = text::read(text);
+    let answer = fixed::bounds_of_reading(reading, flow);
+    fixed_bounds_numbers(answer)
+}
+
+// One slot of the set in `text` with fixed priority: the next state over the 68 bytes, the slot's `send` lines at the start of `lines`.
+// The text's refusals, then 12, 11 and 10; a refusal changes neither.
+#[no_mangle]
+pub extern "C" fn rembasuk_fixed_slot(text: &[u8], state: &mut [u8], lines: &mut [u8]) -> SlotAnswer
+    ensures { λ r. ⌜ r ≡ fixedSlotForC (now (text .entry)) (now (state .entry)) (length (now (lines .entry))) ⌝ }
+    ensures { λ r. ⌜ now (state .exit) ≡ slotStateWith lower (readText (now (text .entry))) (now (state .entry)) (length (now (lines .entry))) ⌝ }
+    ensures { λ r. ⌜ now (lines .exit) ≡ slotBufferWith lower (readText (now (text .entry))) (now (state .entry)) (now (lines .entry)) ⌝ }
+{
+    slots::slot_of_text(Order::Number, text, state, lines)
 }

@@ -2,11 +2,13 @@
 ghost use mathlib.Core.Path.{_≡_};
 ghost use lib.ListN.{length, take};
 ghost use Rattle.document.specs.Program.{sendLines, slotBufferWith, slotStateWith};
-ghost use Rattle.document.specs.ForC.{slotAnswerWith};
+ghost use Rattle.document.specs.ForC.{slotAnswerWith, slotForCWith};
+ghost use Rattle.document.specs.Reader.{readText};
 ghost use Rattle.document.specs.Machine.{orderOf};
 ghost use Rattle.text.specs.Put.{Put};
 ghost use Rattle.planner.specs.BeforeStep.{PassesIfRead, faultBeforeStep, lengthFault};
 ghost use Rattle.planner.specs.StepWritten.{stepAnswer, stepBuffer, stepState};
+use crate::answers::slot_numbers;
 use crate::state_bytes;
 use crate::state_bytes::put_state;
 use crate::state_bytes::state_of;
@@ -16,6 +18,7 @@ use model::Order;
 use model::Reading;
 use model::Refusal;
 use model::Send;
+use model::SlotAnswer;
 use model::Stepped;
 use model::Written;
 use text::put_sends;
@@ -92,4 +95,15 @@ pub fn slot_of_reading(by: Order, reading: Reading, state: &mut [u8], lines: &mu
     let st = state_of(state);
     let stepped = machine::step_accepted(by, set, st);
     write_step(state, lines, stepped)
+}
+
+// One slot of the set in a text, as C is answered: the text's refusals come before all others.
+pub fn slot_of_text(by: Order, text: &[u8], state: &mut [u8], lines: &mut [u8]) -> SlotAnswer
+    ensures { λ r. ⌜ r ≡ slotForCWith (orderOf by) (now (text .entry)) (now (state .entry)) (length (now (lines .entry))) ⌝ }
+    ensures { λ r. ⌜ now (state .exit) ≡ slotStateWith (orderOf by) (readText (now (text .entry))) (now (state .entry)) (length (now (lines .entry))) ⌝ }
+    ensures { λ r. ⌜ now (lines .exit) ≡ slotBufferWith (orderOf by) (readText (now (text .entry))) (now (state .entry)) (now (lines .entry)) ⌝ }
+{
+    let reading = text::read(text);
+    let written = slot_of_reading(by, reading, state, lines);
+    slot_numbers(written)
 }

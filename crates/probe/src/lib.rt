@@ -7,13 +7,16 @@ ghost use Rattle.document.specs.Reader.{readText, recordFault, writeAnswer, wri
 ghost use Rattle.document.specs.Delay.{boundsOf, verdictOf};
 ghost use Rattle.document.specs.Machine.{runOf, stepOf};
 ghost use Rattle.document.specs.Program.{planAnswer, planInto};
+ghost use Rattle.document.specs.Fixed.{fixedAnswer, fixedBoundsOf, fixedInto, fixedRun, fixedStep, fixedVerdictOf};
 ghost use Rattle.document.specs.Superframe.{sizeAnswer, superframeAnswer, superframeInto};
-ghost use Rattle.document.specs.ForC.{boundsNumbers, slotNumbers, superframeNumbers, verdictNumbers};
+ghost use Rattle.document.specs.ForC.{boundsNumbers, fixedBoundsNumbers, fixedVerdictNumbers, slotNumbers, superframeNumbers, verdictNumbers};
 ghost use Rattle.probe.specs.RecordNumbers.{faultNumbers, ranNumbers, readingNumbers, steppedNumbers};
 use model::BoundsAnswer;
 use model::ChannelMap;
 use model::Delivery;
 use model::Fault;
+use model::FixedBoundsAnswer;
+use model::FixedVerdictAnswer;
 use model::Flow;
 use model::FlowSet;
 use model::Ran;
@@ -201,4 +204,47 @@ pub extern "C" fn probe_superframe(s: FlowSet, table: &mut [u16]) -> SuperframeA
         ⌝ }
 {
     planner::superframe_numbers(superframe_table::superframe(s, table))
+}
+
+// The verdict of the test for fixed priority.
+#[no_mangle]
+pub extern "C" fn probe_fixed_verdict(s: FlowSet) -> FixedVerdictAnswer
+    ensures { λ r. ⌜ r ≡ fixedVerdictNumbers (fixedVerdictOf (used s)) ⌝ }
+{
+    planner::fixed_verdict_numbers(delay::fixed_verdict(s))
+}
+
+// One flow's bound with fixed priority.
+#[no_mangle]
+pub extern "C" fn probe_fixed_bounds(s: FlowSet, flow: u16) -> FixedBoundsAnswer
+    ensures { λ r. ⌜ r ≡ fixedBoundsNumbers (fixedBoundsOf (used s) flow) ⌝ }
+{
+    planner::fixed_bounds_numbers(delay::fixed_bounds(s, flow))
+}
+
+// One step with fixed priority.
+#[no_mangle]
+pub extern "C" fn probe_fixed_step(s: FlowSet, st: State) -> ProbeStepped
+    ensures { λ r. ⌜ r ≡ steppedNumbers (fixedStep (used s) st) ⌝ }
+{
+    stepped_numbers(machine::fixed_step(s, st))
+}
+
+// A run from the fresh state with fixed priority.
+#[no_mangle]
+pub extern "C" fn probe_fixed_run(s: FlowSet, budget: u32) -> ProbeRan
+    ensures { λ r. ⌜ r ≡ ranNumbers (fixedRun (used s) budget) ⌝ }
+{
+    ran_numbers(machine::fixed_run(s, budget))
+}
+
+// The text of the program for fixed priority.
+#[no_mangle]
+pub extern "C" fn probe_fixed(input: &[u8], out: &mut [u8]) -> SlotAnswer
+    ensures { λ r. ⌜
+        (r ≡ slotNumbers (fixedAnswer (now (input .entry)) (length (now (out .entry)))))
+        × (now (out .exit) ≡ fixedInto (now (input .entry)) (now (out .entry)))
+        ⌝ }
+{
+    planner::slot_numbers(plan_text::fixed(input, out))
 }

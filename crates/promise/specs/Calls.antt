@@ -107,7 +107,8 @@ module _ {first : Priority} (o : Ordering first) where
     next-is t = ap (λ (r : Stepped). r .next) (sym (report-step o (setIn text) t))
 
     -- All its numbers are short, so its lines fit.
-    send-short : (t k p : ℕ) → t < lastSlot → memb k (placedWith first (setIn text) (stateIn first text t)) ≡ true → Short (sendOf (setIn text) (stateIn first text t) k p)
+    send-short : (t k p : ℕ) → t < lastSlot → memb k (placedWith first (setIn text) (stateIn first text t)) ≡ true
+        → Short (sendOf (setIn text) (stateIn first text t) k p)
     unfolding sendOf tens
     send-short t k p h e =
         let s = setIn text in
@@ -155,7 +156,8 @@ module _ {first : Priority} (o : Ordering first) where
         rw (read, bytes-long t h, bytes-back t (omega arith), state-good o (setIn text) passes t h, lines-of t h)
 
     -- so with 576 bytes it is not,
-    call-good : (t room : ℕ) → t < lastSlot → linesLength ≤ room → slotFaultWith first (readText text) (stateBytes (stateIn first text t)) room ≡ noFault
+    call-good : (t room : ℕ) → t < lastSlot → linesLength ≤ room
+        → slotFaultWith first (readText text) (stateBytes (stateIn first text t)) room ≡ noFault
     call-good t room h r = call-fault t room h ∙ rw (le-ltb room (length (sendLines (sentIn first text t))) (omega (arith, lines-fit t h)))
 
     -- and where the lines have 576 it is refused with less;
@@ -191,9 +193,11 @@ module _ {first : Priority} (o : Ordering first) where
       unfolding bytesAt runWith
       run-bytes zero h = fresh-bytes
       run-bytes (suc n) h =
-          ap (λ (b : List ℕ). slotStateWith first (readText text) b (length (lent n))) (run-bytes n (omega arith)) ∙ call-state n (length (lent n)) h (room n)
+          ap (λ (b : List ℕ). slotStateWith first (readText text) b (length (lent n))) (run-bytes n (omega arith))
+          ∙ call-state n (length (lent n)) h (room n)
 
-      answer-is : (t : ℕ) → t < lastSlot → answerAt first text lent t ≡ record { refusal = 0; line = 0; field = 0; length = length (sendLines (sentIn first text t)) }
+      answer-is : (t : ℕ) → t < lastSlot
+          → answerAt first text lent t ≡ record { refusal = 0; line = 0; field = 0; length = length (sendLines (sentIn first text t)) }
       answer-is t h =
           ap (λ (b : List ℕ). slotForCWith first text b (length (lent t))) (run-bytes t (omega arith)) ∙ call-length t (length (lent t)) h (room t)
 

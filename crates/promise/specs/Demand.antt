@@ -33,6 +33,7 @@ use Rattle.promise.specs.RunStates.{stateAt, report-step}
 use Rattle.promise.specs.Reports.{drops-eq, dropped-eq, filter-at}
 use Rattle.promise.specs.Flows.{FlowKept, flow-kept}
 use Rattle.promise.specs.SlotsApart.{slot-apart}
+use Rattle.promise.specs.Facts.{OwnFacts, sent-next, flow-once, numbers-rise}
 use Rattle.promise.specs.TextHeld.{text-held, text-passes}
 
 -- every one passes
@@ -83,7 +84,7 @@ used-whole s w g k l =
     let n = rw e at (accepted (used s) g .flow k l .nodes-le) in
     rw (e, length-take) (omega (arith, w .1 k i))
 
-used-bits : (s : FlowSet) → Held s → used s .map .0 < 2 ^ mostChannels
+pub used-bits : (s : FlowSet) → Held s → used s .map .0 < 2 ^ mostChannels
 used-bits s w = rw (used-map s) (w .0)
 
 -- a test whose bounds are kept flow by flow, in every accepted set that it admits
@@ -92,7 +93,7 @@ FlowsKeep test M = (s : FlowSet) → good (recordFault s .refusal) ≡ true → 
     → (k n : ℕ) → k < s .count → n ≤ lastSlot → FlowKept M s k (test .bound s k) n
 
 -- So the machine with any order of priority keeps the promise of such a test, and its runs of admitted sets drop nothing. And in every accepted set,
--- admitted or not, no slot uses a node or a channel twice.
+-- admitted or not, it has its own facts.
 module _ {first : Priority} (o : Ordering first) where
   pub flows-promise : (test : Test) → FlowsKeep test (stepWith first) → PromiseOf test (stepWith first)
   flows-promise test f s w g e n h =
@@ -106,9 +107,16 @@ module _ {first : Priority} (o : Ordering first) where
       let u = used s in
       run-undropped o u g (test .bound u) n h (λ k l. f u g (rw (used-map s) w) e k n l h) n (le-refl n)
 
-  pub apart-in : (s : FlowSet) → Held s → good (recordFault (used s) .refusal) ≡ true
-      → (t : ℕ) → t < lastSlot → Apart (used s) (report (stepWith first) (used s) t)
-  apart-in s w g = slot-apart o (used s) g (used-bits s w) (used-whole s w g)
+  pub own-facts : (s : FlowSet) → Held s → good (recordFault (used s) .refusal) ≡ true → OwnFacts (stepWith first) (used s)
+  own-facts s w g =
+      let u = used s in
+      let bits = used-bits s w in
+      record {
+        apart = slot-apart o u g bits (used-whole s w g);
+        next = sent-next o u g bits;
+        once = flow-once o u g bits;
+        rising = numbers-rise o u g bits;
+      }
 
 -- a test that admits nothing where the set is refused admits accepted sets only
 pub only-good : (admits : Bool → Bool) (b : Bool) → admits false ≡ false → admits b ≡ true → b ≡ true
@@ -165,7 +173,7 @@ module _ (s : FlowSet) (g : good (recordFault s .refusal) ≡ true) where
 -- In every accepted set, admitted or not, no slot uses a node or a channel twice,
 pub apart-always : (s : FlowSet) → Held s → good (recordFault (used s) .refusal) ≡ true
     → (t : ℕ) → t < lastSlot → Apart (used s) (report stepOf (used s) t)
-apart-always = apart-in deadline-order
+apart-always s w g = own-facts deadline-order s w g .apart
 
 -- and each flow whose own bound, of either test, is at most its deadline keeps it and loses no packet.
 pub safe-flow : (s : FlowSet) → Held s → good (recordFault (used s) .refusal) ≡ true → (k n : ℕ) → k < used s .count → n ≤ lastSlot

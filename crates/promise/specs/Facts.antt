@@ -21,7 +21,7 @@ use Rattle.document.specs.Delay.{period, workAt}
 use Rattle.document.specs.Machine.{Priority, releaseAt, deadlineAt, placedWith, sendOf, stepWith}
 use Rattle.laws.specs.SumLaws.{count, sum-ext, sum-more, sum-next, any-in, any-find}
 use Rattle.promise.specs.Load.{latest-le}
-use Rattle.promise.specs.Promise.{SlotMachine, report, send, Is}
+use Rattle.promise.specs.Promise.{SlotMachine, report, send, Apart, Is}
 use Rattle.promise.specs.SlotChoice.{Ordering}
 use Rattle.promise.specs.RunStates.{stateAt, choice}
 use Rattle.promise.specs.Timetable.{placedIn, numberIn, placed-ready, number-count}
@@ -42,6 +42,15 @@ pub record Next (M : SlotMachine) (s : FlowSet) (t : ℕ) (x : Send) : Type 0 wh
   pub due : t < deadlineAt (flowAt s (x .flow)) t
   pub short : sentBefore M s (x .flow) t < workAt s (x .flow)
   pub is : Is s t (x .flow) (sentBefore M s (x .flow) t) x
+
+-- The machine's own facts of a set, to the last slot there is: no slot uses a node or a channel twice; what it sends is the next transmission of a
+-- packet; it sends no flow twice; and of two slots of one packet the later has the higher number.
+pub record OwnFacts (M : SlotMachine) (s : FlowSet) : Type 0 where
+  pub apart : (t : ℕ) → t < lastSlot → Apart s (report M s t)
+  pub next : (t p : ℕ) → t < lastSlot → p < report M s t .sends → Next M s t (send (report M s t) p)
+  pub once : (t p q : ℕ) → t < lastSlot → p < q → q < report M s t .sends → send (report M s t) p .flow ≢ send (report M s t) q .flow
+  pub rising : (k t u : ℕ) → t < u → releaseAt (flowAt s k) t ≡ releaseAt (flowAt s k) u → releaseAt (flowAt s k) t ≤ t
+      → hasFlow (report M s t) k ≡ true → sentBefore M s k t < sentBefore M s k u
 
 -- tests that imply each other are the same
 same-test : (a b : Bool) → (a ≡ true → b ≡ true) → (b ≡ true → a ≡ true) → a ≡ b

@@ -15,10 +15,12 @@ use Rattle.model.specs.Refusals.{good, refusalNumber, faultAt, noFault, orElse}
 use Rattle.model.specs.Limits.{lastSlot}
 use Rattle.document.specs.Reader.{recordFault, readText}
 use Rattle.document.specs.Delay.{boundsFault, boundsIf, boundsOf, verdictOf}
-use Rattle.document.specs.Machine.{badState, stepFault}
-use Rattle.document.specs.Program.{stateLength, stateOf, slotLines, slotFault, slotFaultWith, refusedLine, mostInput, planOf, printText}
+use Rattle.document.specs.Machine.{Priority, ahead, lower, badState, stepFault}
+use Rattle.document.specs.Program.{stateLength, stateOf, slotLinesWith, slotFaultWith, refusedLine, mostInput, planOf, planText, printText}
+use Rattle.document.specs.Fixed.{fixedVerdictOf, fixedBoundsIf, fixedBoundsOf, fixedOf, fixedText}
 use Rattle.document.specs.Superframe.{flat, superframe, hyper, mostHyper, neitherAdmits, startsLate, sizeFault, superframeFault, sizeAnswer, superframeAnswer, superframeText}
 use Rattle.document.specs.ForC.{verdictOfReading, boundsOfReading, slotAnswerWith, rowsRead, tableFault, tableAnswer, sizeOfReading, superframeOfReading, verdictForC, boundsForC, slotForCWith, allBoundsForC, sizeForC, superframeForC}
+use Rattle.document.specs.ForC.{fixedVerdictOfReading, fixedBoundsOfReading, fixedVerdictForC, fixedBoundsForC, fixedSlotForC}
 use Rattle.document.specs.Text.{fields, numbersOf, lineOf}
 use Rattle.document.specs.FieldNamed.{FieldNamed, FieldsForC, ProgramsPrint}
 use Rattle.laws.specs.{Codes.{number-le}, WrittenNumbers.{tens, fields-tabbed, values-back}}
@@ -39,6 +41,14 @@ after-test false f g h k = k
 
 after-at : (r : Refusal) → 10 ≤ refusalNumber r → After (faultAt r 0)
 after-at r h = record { none = refl; number = λ k. h }
+
+-- an answer's fault that is none, or one after the reader's
+after-none-or : (answer : Bool → Fault) (f : Fault) → answer true ≡ noFault → answer false ≡ f → After f → After (answer (good (f .refusal)))
+after-none-or answer f e q h = go (good (f .refusal))
+  where
+    go : (b : Bool) → After (answer b)
+    go true = rw e after-none
+    go false = rw q h
 
 -- a refusal by its test, before another fault
 refused-or : (b : Bool) (r : Refusal) (g : Fault) → 10 ≤ refusalNumber r → After g → After (cond b (faultAt r 0) g)
@@ -95,20 +105,28 @@ module _ (text : List ℕ) where
   unfolding boundsOfReading boundsOf
   bounds-named k =
       answered (boundsOfReading (readText text) k .fault)
-      (λ e p. rw e (go (good (boundsFault (setIn text) k .refusal)) (bounds-after (setIn text) p k))) (λ e. rw e refl)
-    where
-      go : (b : Bool) → After (boundsFault (setIn text) k) → After (boundsIf (setIn text) k b .fault)
-      go true h = after-none
-      go false h = h
+      (λ e p. rw e (after-none-or (λ b. boundsIf (setIn text) k b .fault) (boundsFault (setIn text) k) refl refl (bounds-after (setIn text) p k)))
+      (λ e. rw e refl)
 
-  slot-named : (state : List ℕ) (room : ℕ) → NamedIn text (slotFault (readText text) state room)
+  slot-named : (first : Priority) (state : List ℕ) (room : ℕ) → NamedIn text (slotFaultWith first (readText text) state room)
   unfolding slotFaultWith
-  slot-named state room =
-      answered (slotFault (readText text) state room)
+  slot-named first state room =
+      answered (slotFaultWith first (readText text) state room)
       (λ e p. rw e
       (after-test (eqb (length state) stateLength) _ (faultAt BadState 0)
-      (room-after _ (ltb room (length (slotLines (setIn text) state))) (step-after (setIn text) p (stateOf state)))
+      (room-after _ (ltb room (length (slotLinesWith first (setIn text) state))) (step-after (setIn text) p (stateOf state)))
       (after-at BadState (omega arith))))
+      (λ e. rw e refl)
+
+  fixed-verdict-named : NamedIn text (fixedVerdictOfReading (readText text) .fault)
+  unfolding fixedVerdictOfReading fixedVerdictOf
+  fixed-verdict-named = answered (fixedVerdictOfReading (readText text) .fault) (λ e p. rw (e, p) after-none) (λ e. rw e refl)
+
+  fixed-bounds-named : (k : ℕ) → NamedIn text (fixedBoundsOfReading (readText text) k .fault)
+  unfolding fixedBoundsOfReading fixedBoundsOf
+  fixed-bounds-named k =
+      answered (fixedBoundsOfReading (readText text) k .fault)
+      (λ e p. rw e (after-none-or (λ b. fixedBoundsIf (setIn text) k b .fault) (boundsFault (setIn text) k) refl refl (bounds-after (setIn text) p k)))
       (λ e. rw e refl)
 
   table-named : (room : ℕ) → NamedIn text (tableFault (readText text) room)
@@ -136,11 +154,22 @@ fields-for-c text =
     record {
       verdict = verdict-named text;
       bounds = bounds-named text;
-      slot = slot-named text;
+      slot = slot-named text ahead;
       all-bounds = table-named text;
       size = size-named text;
       superframe = superframe-named text;
     }
+
+-- So it is of the calls of fixed priority.
+pub record FixedFieldsForC (text : List ℕ) : Type 0 where
+  pub verdict : FieldNamed text (fixedVerdictForC text .refusal) (fixedVerdictForC text .line) (fixedVerdictForC text .field)
+  pub bounds : (k : ℕ) → FieldNamed text (fixedBoundsForC text k .refusal) (fixedBoundsForC text k .line) (fixedBoundsForC text k .field)
+  pub slot : (state : List ℕ) (room : ℕ)
+      → FieldNamed text (fixedSlotForC text state room .refusal) (fixedSlotForC text state room .line) (fixedSlotForC text state room .field)
+
+pub fixed-fields : (text : List ℕ) → FixedFieldsForC text
+unfolding fixedVerdictForC fixedBoundsForC slotForCWith slotAnswerWith
+fixed-fields text = record { verdict = fixed-verdict-named text; bounds = fixed-bounds-named text; slot = slot-named text lower }
 
 -- the `refused` line gives its three numbers back, where the line and the field have at most ten digits
 refused-numbers : (f : Fault) → f .line < tens 10 → f .field < tens 10 → numbersOf (refusedLine f) ≡ refusalNumber (f .refusal) ∷ f .line ∷ f .field ∷ []
@@ -175,3 +204,7 @@ programs-print text l b =
           ∙ refused-numbers (readText text .fault) (omega (arith, read-line-le text)) (omega arith);
       superframe = ap numbersOf (superframe-refused text l b ∙ sym (print-refused planOf text l b));
     }
+
+-- and so does the program of fixed priority
+pub fixed-prints : (text : List ℕ) → length text ≤ mostInput → good (readText text .fault .refusal) ≡ false → fixedText text ≡ planText text
+fixed-prints text l b = print-refused fixedOf text l b ∙ sym (print-refused planOf text l b)

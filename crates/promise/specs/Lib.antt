@@ -2,12 +2,15 @@ pub mod Load
 pub mod Waiting
 pub mod SlotChoice
 pub mod DeadlineOrder
+pub mod NumberOrder
 pub mod Schedule
 pub mod Within
+pub mod ByNumber
 pub mod Promise
 pub mod Repeated
 pub mod Larger
 pub mod RunStates
+pub mod BothOrders
 pub mod Timetable
 pub mod Reports
 pub mod Facts
@@ -20,6 +23,8 @@ pub mod Machines
 pub mod Refuted
 pub mod SentLines
 pub mod Calls
+pub mod FixedPromise
+pub mod FixedRefuted
 pub mod FullLines
 pub mod SameChoice
 pub mod Shifts

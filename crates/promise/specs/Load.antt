@@ -1,5 +1,6 @@
 -- One flow's load in another's window: the flow's packets come T slots apart and each has at most M marked slots, all of them within v of its
--- release, so a window that ends v after a release holds M for each whole period and at most M, and at most its slots, of the rest.
+-- release, so a window that ends v after a release holds M for each whole period and at most M, and at most its slots, of the rest. So it is with
+-- document 01's order, by the deadlines in the window; a flow that always goes first counts with every packet that can be on air in it.
 use mathlib.Core.Path.{_≡_, ap}
 use mathlib.Core.Bool.{Bool, true, _&&_}
 use Prim.Native.Nat.{ℕ, zero, suc, _+_, _-_, _*_, _/_, _%_, _≤_, _<_, min}
@@ -16,6 +17,7 @@ use native.Mathlib.Decide.{decLe}
 use native.Mathlib.Omega.{arith}
 use lib.Dec.{leb}
 use borrow.Author.Tests.{leb-true}
+use Rattle.document.specs.Fixed.{roundedUp}
 use Rattle.laws.specs.SumLaws.{count, count-in, count-none, bits-le, count-split, and-l, and-r}
 
 -- the release of a flow's latest packet at slot t, for t not before its start a
@@ -38,6 +40,10 @@ latest-eq a T j t h k = rw (div-eq-of-lt-le {k = j} T {m = t - a} (omega arith) 
 -- at most M, and at most the slots less the D − v before a deadline, which stay free
 unfoldable pub loadShare : ℕ → ℕ → ℕ → ℕ → ℕ → ℕ
 loadShare x T D v M = x / T * M + min M (x % T - (D - v))
+
+-- a quotient rounded up is enough
+rounded-up : (x T : ℕ) → 0 < T → x ≤ roundedUp x T * T
+rounded-up x T h = omega (arith, lt-div-mul-add {a = x + (T - 1)} h)
 
 -- A flow's marked slots: at most M in the period of each packet, and only within v of a release.
 pub record MarkedSlots (a T D v M : ℕ) (s : ℕ → Bool) : Type 0 where
@@ -81,24 +87,26 @@ module _ {a T D v M : ℕ} {s : ℕ → Bool} (f : MarkedSlots a T D v M s) wher
       go ih (no h) (suc j) e =
           omega (arith, peel (suc j) (q * M + min M y) e (omega arith) (ih j (n - T) (omega arith) (omega arith)))
 
-  -- slots that end with packet j, whose deadline is in the first x slots of the window
-  ending-le : (j r h x : ℕ) (p : ℕ → Bool) → a + j * T + D ≤ r + x
-      → ((t : ℕ) → r ≤ t → p t ≡ true → (t < a + j * T + v) × (s t ≡ true)) → count p r h ≤ loadShare x T D v M
-  unfolding loadShare
-  ending-le j r h x p d k =
+  -- slots from r on that end with packet j, v after its release, which is q periods and y slots after r or sooner
+  ending-le : (j r h q y : ℕ) (p : ℕ → Bool) → y ≤ T → a + j * T + v ≤ r + (q * T + y)
+      → ((t : ℕ) → r ≤ t → t < r + h → p t ≡ true → (t < a + j * T + v) × (s t ≡ true)) → count p r h ≤ q * M + min M y
+  ending-le j r h q y p d e k =
       let n : ℕ = a + j * T + v - r in
       let u : ℕ = a + j * T + v - n in
       omega (
         arith,
-        count-in p s r h u n (λ t l g i. (omega arith, omega (arith, k t l i), k t l i .1)),
-        window-le (x / T) (x % T - (D - v)) j u n (omega arith) (omega (arith, mod-lt x (f .period))) (omega (arith, div-add-mod' x T)),
+        count-in p s r h u n (λ t l g i. (omega arith, omega (arith, k t l g i), k t l g i .1)),
+        window-le q y j u n (omega arith) d (omega arith),
       )
 
   -- the marked slots of a window whose packets have their deadline in the first x slots of the window
   pub load-le : (r h x : ℕ) → count (λ t. s t && leb (latestRelease a T t + D) (r + x)) r h ≤ loadShare x T D v M
+  unfolding loadShare
   load-le r h x =
       elim (decLe (a + D) (r + x)) [
-        | yes k ↦ ending-le ((r + x - (a + D)) / T) r h x due (omega (arith, div-mul-le-self (r + x - (a + D)) T)) ends
+        | yes k ↦
+            ending-le ((r + x - (a + D)) / T) r h (x / T) (x % T - (D - v)) due (omega (arith, mod-lt x (f .period)))
+            (omega (arith, div-mul-le-self (r + x - (a + D)) T, div-add-mod' x T)) ends
         | no k ↦ omega (arith, count-none due r h (λ t l g i. omega (arith, by t i)))
       ]
     where
@@ -109,8 +117,31 @@ module _ {a T D v M : ℕ} {s : ℕ → Bool} (f : MarkedSlots a T D v M s) wher
       by t i = leb-true _ _ (and-r (s t) _ i)
 
       -- no packet is later than the last with its deadline there
-      ends : (t : ℕ) → r ≤ t → due t ≡ true → (t < a + (r + x - (a + D)) / T * T + v) × (s t ≡ true)
-      ends t l i =
+      ends : (t : ℕ) → r ≤ t → t < r + h → due t ≡ true → (t < a + (r + x - (a + D)) / T * T + v) × (s t ≡ true)
+      ends t l u i =
           let g = and-l (s t) _ i in
           let b : (t - a) / T * T ≤ r + x - (a + D) = omega (arith, by t i) in
           let c = mul-le-mul-right T (le-div-iff-mul-le (f .period) .1 b) in (omega (arith, f .early t g), g)
+
+  -- the marked slots of a window of x slots, whatever their deadlines: their packets are released in the x + v − 1 slots that end with the window
+  pub first-le : (r x : ℕ) → count s r x ≤ roundedUp (x + v - 1) T * M
+  first-le r x =
+      elim (decLe (r + x) a) [
+        | yes k ↦ omega (arith, count-none s r x (λ t l g i. omega (arith, f .early t i)))
+        | no k ↦ elim (decLe x 0) [
+          | yes z ↦ omega (arith, count-none s r x (λ t l g i. omega arith))
+          | no z ↦
+              omega (
+                arith,
+                ending-le ((r + x - 1 - a) / T) r x (roundedUp (x + v - 1) T) 0 s (omega arith)
+                    (omega (arith, div-mul-le-self (r + x - 1 - a) T, rounded-up (x + v - 1) T (f .period))) ends,
+              )
+        ]
+      ]
+    where
+      -- no packet is later than the last released in the window
+      ends : (t : ℕ) → r ≤ t → t < r + x → s t ≡ true → (t < a + (r + x - 1 - a) / T * T + v) × (s t ≡ true)
+      ends t l u i =
+          let w = f .early t i in
+          let b : (t - a) / T * T ≤ r + x - 1 - a = omega (arith, latest-le a T t (w .0)) in
+          let c = mul-le-mul-right T (le-div-iff-mul-le (f .period) .1 b) in (omega arith, i)

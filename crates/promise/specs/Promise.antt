@@ -1,4 +1,4 @@
--- Demand 3: what a test of schedulability promises of a slot machine, for any test and any machine, and document 01's two tests. It is said of
+-- Demand 3: what a test of schedulability promises of a slot machine, for any test and any machine; document 01's two tests, and request 4's. It is said of
 -- what the steps of the machine's run from the fresh state report. The second half says the same of the bytes that a C host gets.
 use mathlib.Core.{Bool.{Bool, true}, List.{List, map}, Logic.{_≢_, _⊎_}, Path.{_≡_}}
 use Prim.Native.Nat.{ℕ, zero, suc, _+_, _*_, _/_, _%_, _^_, _≤_, _<_}
@@ -9,9 +9,10 @@ use Rattle.document.specs.Reader.{recordFault, readText}
 use Rattle.document.specs.Delay.{ways, workAt, verdictOf, boundsOf}
 use Rattle.model.specs.Limits.{mostChannels, mostNodes, lastSlot}
 use Rattle.document.specs.Text.{lines, numbersOf}
-use Rattle.document.specs.Machine.{Priority, ahead, channels, noSend, release, stepWith, stepOf, runWith, runOf}
+use Rattle.document.specs.Machine.{Priority, ahead, lower, channels, noSend, release, stepWith, stepOf, runWith, runOf}
 use Rattle.document.specs.Program.{stateLength, stateBytes, sendNumbers, sendLines, slotStateWith, slotBufferWith}
-use Rattle.document.specs.ForC.{verdictForC, boundsForC, slotForCWith, slotForC}
+use Rattle.document.specs.Fixed.{fixedStep, fixedVerdictOf, fixedBoundsOf}
+use Rattle.document.specs.ForC.{verdictForC, boundsForC, slotForCWith, slotForC, fixedVerdictForC, fixedBoundsForC}
 
 -- a slot machine answers a set and a state by a step
 abbrev pub SlotMachine : Type 0
@@ -82,7 +83,11 @@ basic = record { admits = λ s. verdictOf s .basic; bound = λ s k. boundsOf s k
 abbrev pub tightened : Test
 tightened = record { admits = λ s. verdictOf s .tightened; bound = λ s k. boundsOf s k .tightened }
 
--- either test admits
+-- request 4's test, for the machine with fixed priority
+abbrev pub fixed : Test
+fixed = record { admits = λ s. fixedVerdictOf s .admitted; bound = λ s k. fixedBoundsOf s k .bound }
+
+-- either of document 01's tests admits
 abbrev pub Admitted : FlowSet → Type 0
 Admitted s = (verdictOf s .basic ≡ true) ⊎ (verdictOf s .tightened ≡ true)
 
@@ -94,7 +99,12 @@ Promise M = PromiseOf basic M × PromiseOf tightened M
 abbrev pub TextPromise : SlotMachine → Type 0
 TextPromise M = TextPromiseOf basic M × TextPromiseOf tightened M
 
--- What C calls, in the words of the contracts of `rembasuk_slot`, `rembasuk_verdict` and `rembasuk_bounds`.
+-- Demand 3 for request 4's pair, of accepted sets and of accepted texts.
+abbrev pub FixedPromise : Type 0
+FixedPromise = PromiseOf fixed fixedStep × TextPromiseOf fixed fixedStep
+
+-- What C calls, in the words of the contracts of `rembasuk_slot`, `rembasuk_verdict` and `rembasuk_bounds`, and of request 4's
+-- `rembasuk_fixed_slot`, `rembasuk_fixed_verdict` and `rembasuk_fixed_bounds`.
 -- A `send` line has at most 36 bytes: its word, a tab before each of its six numbers, which have at most 10, 2, 5, 5, 1 and 2 digits, and LF.
 abbrev pub lineLength : ℕ
 lineLength = 4 + 6 + (10 + 2 + 5 + 5 + 1 + 2) + 1
@@ -156,6 +166,10 @@ abbrev pub PromiseForC : Type 0
 PromiseForC =
     PromiseForCOf ahead (λ text. verdictForC text .basic) (λ text k. boundsForC text k .basic)
     × PromiseForCOf ahead (λ text. verdictForC text .tightened) (λ text k. boundsForC text k .tightened)
+
+-- Demand 3 for C of request 4's pair, by the calls of fixed priority.
+abbrev pub FixedPromiseForC : Type 0
+FixedPromiseForC = PromiseForCOf lower (λ text. fixedVerdictForC text .admitted) (λ text k. fixedBoundsForC text k .bound)
 
 -- The lines tell the transmissions: where two slots of accepted texts have equal bytes, slot, flow, ends, try and channel of each are equal.
 abbrev pub linesIn : List ℕ → ℕ → List ℕ

@@ -1,5 +1,5 @@
 -- What the promise excludes: each of these machines breaks it on a named set that a test admits. The checker computes the slots in question.
-use mathlib.Core.Path.{_≡_, refl, sym, ap, _∙_}
+use mathlib.Core.Path.{_≡_, refl, sym, _∙_}
 use mathlib.Core.Bool.{Bool, true, false, not, _&&_, false≢true}
 use Prim.Native.Nat.{ℕ, zero, suc, _+_, _-_, _*_, _/_, _%_, _≤_, _<_}
 use Prim.Native.String as string
@@ -129,7 +129,7 @@ computed =
     }
 
 -- a packet with a transmission is not made where no report of its slots has one of its flow
-unmade : (M : SlotMachine) (s : FlowSet) (k j b : ℕ) → workAt s k ≡ 1
+pub unmade : (M : SlotMachine) (s : FlowSet) (k j b : ℕ) → workAt s k ≡ 1
     → ((t p : ℕ) → release (flowAt s k) j ≤ t → t < release (flowAt s k) j + b → p < report M s t .sends → send (report M s t) p .flow ≡ k → ⊥)
     → Made M s k j b → ⊥
 unmade M s k j b e f m =
@@ -138,10 +138,10 @@ unmade M s k j b e f m =
     let x = m .sent 0 z in
     f (m .at 0) (x .0) (w .0) (w .1) (x .1) (x .2 .which .1)
 
--- where slot t of document 01's machine sends flow 0 alone, it does not send flow 1
-sole : (s : FlowSet) (t p : ℕ) → (report stepOf s t .sends ≡ 1) × (send (report stepOf s t) 0 .flow ≡ 0)
-    → p < report stepOf s t .sends → send (report stepOf s t) p .flow ≡ 1 → ⊥
-sole s t p w i e =
+-- where slot t sends flow 0 alone, it does not send flow 1
+pub sole : (M : SlotMachine) (s : FlowSet) (t p : ℕ) → (report M s t .sends ≡ 1) × (send (report M s t) 0 .flow ≡ 0)
+    → p < report M s t .sends → send (report M s t) p .flow ≡ 1 → ⊥
+sole M s t p w i e =
     let q : p ≡ 0 = omega arith in
     let y = rw q at e in
     omega arith
@@ -224,7 +224,7 @@ bounds-exact = (
 )
   where
     first : (t p : ℕ) → t < 1 → p < report stepOf (setFrom p5) t .sends → send (report stepOf (setFrom p5) t) p .flow ≡ 1 → ⊥
-    first zero p h i e = sole (setFrom p5) 0 p (computed .of-p5 .own) i e
+    first zero p h i e = sole stepOf (setFrom p5) 0 p (computed .of-p5 .own) i e
     first (suc t) p h i e = omega arith
 
     exact : (test : Test) → test .bound (setFrom p5) 1 ≡ 2 → Kept stepOf (setFrom p5) (oneLess test .bound (setFrom p5)) 1 → ⊥
@@ -243,9 +243,9 @@ three-refuted bound b k =
     (k .made 1 0 (omega (arith, c .flows)) (omega (arith, c .one .1)))
   where
     only-flow-0 : (t p : ℕ) → t < 3 → p < report stepOf (setFrom l2) t .sends → send (report stepOf (setFrom l2) t) p .flow ≡ 1 → ⊥
-    only-flow-0 zero p h i e = sole (setFrom l2) 0 p (computed .of-l2 .slot-0) i e
-    only-flow-0 (suc zero) p h i e = sole (setFrom l2) 1 p (computed .of-l2 .slot-1) i e
-    only-flow-0 (suc (suc zero)) p h i e = sole (setFrom l2) 2 p (computed .of-l2 .slot-2) i e
+    only-flow-0 zero p h i e = sole stepOf (setFrom l2) 0 p (computed .of-l2 .slot-0) i e
+    only-flow-0 (suc zero) p h i e = sole stepOf (setFrom l2) 1 p (computed .of-l2 .slot-1) i e
+    only-flow-0 (suc (suc zero)) p h i e = sole stepOf (setFrom l2) 2 p (computed .of-l2 .slot-2) i e
     only-flow-0 (suc (suc (suc t))) p h i e = omega arith
 
 pub different-links-refuted : PromiseOf (record { admits = basic .admits; bound = differentBound }) stepOf → ⊥

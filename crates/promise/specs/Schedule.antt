@@ -222,7 +222,8 @@ module _ {n m L : ℕ} {T D a C : ℕ → ℕ} {S : ℕ → ℕ → ℕ} {tx : �
           -- and those of them that conflict with it: they touch its route
           in-way : blocks n tx before conf k r b ≤ others n k x
           in-way =
-              others-le n k r b (λ l t. tx l t && before t k l && conf t k l) x (λ l i q. le-trans (count-in _ _ r b r b (touch l i)) (given .touching l i q))
+              others-le n k r b (λ l t. tx l t && before t k l && conf t k l) x
+              (λ l i q. le-trans (count-in _ _ r b r b (touch l i)) (given .touching l i q))
               (never _ (λ t i. and-r (tx k t) _ (and-l _ (conf t k k) i)))
             where
               touch : (l : ℕ) → l < n → Into (λ t. tx l t && before t k l && conf t k l) (λ t. tx l t && before t k l && mark k l (had l t)) r b r b

@@ -96,6 +96,26 @@ pub struct Bounds {
     pub margin: i32,
 }
 
+/// The verdict for fixed priority; 1 admits.
+#[repr(C)]
+#[derive(Clone, Copy, Debug, PartialEq, Eq)]
+pub struct FixedVerdict {
+    pub fault: Fault,
+    pub admitted: u32,
+    pub judged: u32,
+}
+
+/// One flow's bound by fixed priority; 1 is judged.
+#[repr(C)]
+#[derive(Clone, Copy, Debug, PartialEq, Eq)]
+pub struct FixedBounds {
+    pub fault: Fault,
+    pub work: u32,
+    pub bound: u32,
+    pub deadline: u32,
+    pub judged: u32,
+}
+
 /// How many slots and how many numbers a superframe has.
 #[repr(C)]
 #[derive(Clone, Copy, Debug, PartialEq, Eq)]
@@ -155,6 +175,11 @@ extern "C" {
     fn probe_step(s: RawSet, st: RawState) -> RawStepped;
     fn probe_run(s: RawSet, budget: u32) -> RawRan;
     fn probe_plan(input: *const u8, input_length: usize, out: *mut u8, length: usize) -> Written;
+    fn probe_fixed_verdict(s: RawSet) -> FixedVerdict;
+    fn probe_fixed_bounds(s: RawSet, flow: u16) -> FixedBounds;
+    fn probe_fixed_step(s: RawSet, st: RawState) -> RawStepped;
+    fn probe_fixed_run(s: RawSet, budget: u32) -> RawRan;
+    fn probe_fixed(input: *const u8, input_length: usize, out: *mut u8, length: usize) -> Written;
     fn probe_superframe_size(s: RawSet) -> Superframe;
     fn probe_superframe(s: RawSet, table: *mut u16, room: usize) -> Superframe;
     // include/rembasuk.h: its answers over a set's text begin with the refusal, the line and the field, as a fault does.
@@ -162,6 +187,9 @@ extern "C" {
     fn rembasuk_bounds(text: *const u8, length: usize, flow: u32) -> Bounds;
     fn rembasuk_all_bounds(text: *const u8, length: usize, table: *mut u32, room: usize) -> Written;
     fn rembasuk_slot(text: *const u8, length: usize, state: *mut u8, state_length: usize, lines: *mut u8, lines_length: usize) -> Written;
+    fn rembasuk_fixed_verdict(text: *const u8, length: usize) -> FixedVerdict;
+    fn rembasuk_fixed_bounds(text: *const u8, length: usize, flow: u32) -> FixedBounds;
+    fn rembasuk_fixed_slot(text: *const u8, length: usize, state: *mut u8, state_length: usize, lines: *mut u8, lines_length: usize) -> Written;
     fn rembasuk_superframe_size(text: *const u8, length: usize) -> Superframe;
     fn rembasuk_superframe(text: *const u8, length: usize, table: *mut u16, room: usize) -> Superframe;
     fn rembasuk_table_write(table: *const u16, numbers: usize, lines: *mut u8, room: usize) -> Lined;
@@ -204,23 +232,39 @@ impl Record {
 
     /// One step from a state.
     pub fn step(&self, st: &State) -> Stepped {
-        let a = unsafe { probe_step(self.0, RawState { slot: st.slot, sent: st.sent }) };
-        Stepped {
-            fault: a.fault,
-            next: state(&a.next),
-            sends: a.sent[..a.sends.into()].to_vec(),
-            delivered: a.delivered[..a.deliveries.into()].to_vec(),
-            dropped: a.dropped[..a.drops.into()].to_vec(),
-            blank: a.sent[a.sends.into()..].iter().all(|x| x.slot == 0 && x.channel == 0 && x.from == 0 && x.to == 0)
-                && a.delivered[a.deliveries.into()..].iter().all(|x| x.flow == 0 && x.delay == 0)
-                && a.dropped[a.drops.into()..].iter().all(|x| *x == 0),
-        }
+        stepped(unsafe { probe_step(self.0, raw_state(st)) })
     }
 
     /// A step alone, for measuring: the next state and how many sends, its lists not taken apart.
     pub fn step_only(&self, st: &State) -> (State, u16) {
-        let a = unsafe { probe_step(self.0, RawState { slot: st.slot, sent: st.sent }) };
+        let a = unsafe { probe_step(self.0, raw_state(st)) };
         (state(&a.next), a.sends)
+    }
+
+    /// The verdict for fixed priority.
+    pub fn fixed_verdict(&self) -> FixedVerdict {
+        unsafe { probe_fixed_verdict(self.0) }
+    }
+
+    /// One flow's bound by fixed priority.
+    pub fn fixed_bounds(&self, flow: u16) -> FixedBounds {
+        unsafe { probe_fixed_bounds(self.0, flow) }
+    }
+
+    /// One step by fixed priority.
+    pub fn fixed_step(&self, st: &State) -> Stepped {
+        stepped(unsafe { probe_fixed_step(self.0, raw_state(st)) })
+    }
+
+    /// Such a step alone.
+    pub fn fixed_step_only(&self, st: &State) -> (State, u16) {
+        let a = unsafe { probe_fixed_step(self.0, raw_state(st)) };
+        (state(&a.next), a.sends)
+    }
+
+    /// A run by fixed priority from the fresh state.
+    pub fn fixed_run(&self, budget: u32) -> Ran {
+        ran(unsafe { probe_fixed_run(self.0, budget) })
     }
 
     /// How long the superframe's table is.
@@ -235,13 +279,33 @@ impl Record {
 
     /// A run from the fresh state.
     pub fn run(&self, budget: u32) -> Ran {
-        let a = unsafe { probe_run(self.0, budget) };
-        Ran { fault: a.fault, last: state(&a.last), delivered: a.delivered, dropped: a.dropped }
+        ran(unsafe { probe_run(self.0, budget) })
     }
 }
 
 fn state(st: &RawState) -> State {
     State { slot: st.slot, sent: st.sent }
+}
+
+fn raw_state(st: &State) -> RawState {
+    RawState { slot: st.slot, sent: st.sent }
+}
+
+fn stepped(a: RawStepped) -> Stepped {
+    Stepped {
+        fault: a.fault,
+        next: state(&a.next),
+        sends: a.sent[..a.sends.into()].to_vec(),
+        delivered: a.delivered[..a.deliveries.into()].to_vec(),
+        dropped: a.dropped[..a.drops.into()].to_vec(),
+        blank: a.sent[a.sends.into()..].iter().all(|x| x.slot == 0 && x.channel == 0 && x.from == 0 && x.to == 0)
+            && a.delivered[a.deliveries.into()..].iter().all(|x| x.flow == 0 && x.delay == 0)
+            && a.dropped[a.drops.into()..].iter().all(|x| *x == 0),
+    }
+}
+
+fn ran(a: RawRan) -> Ran {
+    Ran { fault: a.fault, last: state(&a.last), delivered: a.delivered, dropped: a.dropped }
 }
 
 /// A step's answer, its arrays cut to their counts.
@@ -290,6 +354,11 @@ pub fn plan(input: &[u8], out: &mut [u8]) -> Written {
     unsafe { probe_plan(input.as_ptr(), input.len(), out.as_mut_ptr(), out.len()) }
 }
 
+/// The text of the program `fixed`, at the start of a buffer.
+pub fn fixed(input: &[u8], out: &mut [u8]) -> Written {
+    unsafe { probe_fixed(input.as_ptr(), input.len(), out.as_mut_ptr(), out.len()) }
+}
+
 /// What C is told of a text: both verdicts.
 pub fn text_verdict(text: &[u8]) -> Verdict {
     unsafe { rembasuk_verdict(text.as_ptr(), text.len()) }
@@ -308,6 +377,21 @@ pub fn text_all_bounds(text: &[u8], table: &mut [u32]) -> Written {
 /// C's step over a text: the next state and the slot's lines.
 pub fn text_slot(text: &[u8], state: &mut [u8], lines: &mut [u8]) -> Written {
     unsafe { rembasuk_slot(text.as_ptr(), text.len(), state.as_mut_ptr(), state.len(), lines.as_mut_ptr(), lines.len()) }
+}
+
+/// What C is told of a text: the verdict for fixed priority.
+pub fn text_fixed_verdict(text: &[u8]) -> FixedVerdict {
+    unsafe { rembasuk_fixed_verdict(text.as_ptr(), text.len()) }
+}
+
+/// What C is told of a text: one flow's bound by fixed priority.
+pub fn text_fixed_bounds(text: &[u8], flow: u32) -> FixedBounds {
+    unsafe { rembasuk_fixed_bounds(text.as_ptr(), text.len(), flow) }
+}
+
+/// C's step by fixed priority over a text.
+pub fn text_fixed_slot(text: &[u8], state: &mut [u8], lines: &mut [u8]) -> Written {
+    unsafe { rembasuk_fixed_slot(text.as_ptr(), text.len(), state.as_mut_ptr(), state.len(), lines.as_mut_ptr(), lines.len()) }
 }
 
 /// What C is told of a text: how long its superframe's table is.

@@ -1,4 +1,4 @@
-/* What C is answered of a set on standard input, by each of the six calls over a text: the refusal with its line and field, which all must have in
+/* What C is answered of a set on standard input, by each of the nine calls over a text: the refusal with its line and field, which all must have in
  * common, and nothing but it. The flow, the state and the rooms lent are bad ones: the text is read before anything else is tested. */
 #include <stdio.h>
 #include <stdlib.h>
@@ -51,6 +51,8 @@ int main(void)
     rembasuk_slot_answer s;
     rembasuk_table_answer t;
     rembasuk_superframe_answer f;
+    rembasuk_fixed_verdict_answer fixed;
+    rembasuk_fixed_bounds_answer flow;
     if (text == NULL) {
         return 2;
     }
@@ -75,6 +77,15 @@ int main(void)
     f = rembasuk_superframe(text, length, rows, 2);
     same("rembasuk_superframe", f.refusal, f.line, f.field);
     must(f.hyper == 0 && f.numbers == 0 && rows[0] == 10 && rows[1] == 11, "a refused superframe changes something");
+    fixed = rembasuk_fixed_verdict(text, length);
+    same("rembasuk_fixed_verdict", fixed.refusal, fixed.line, fixed.field);
+    must(!fixed.admitted && !fixed.judged, "a refused verdict by fixed priority is not blank");
+    flow = rembasuk_fixed_bounds(text, length, 99);
+    same("rembasuk_fixed_bounds", flow.refusal, flow.line, flow.field);
+    must(!flow.work && !flow.bound && !flow.deadline && !flow.judged, "a refused bound by fixed priority is not blank");
+    s = rembasuk_fixed_slot(text, length, state, sizeof state, lines, sizeof lines);
+    same("rembasuk_fixed_slot", s.refusal, s.line, s.field);
+    must(s.length == 0 && state[0] == 1 && state[2] == 3 && lines[0] == 4 && lines[3] == 7, "a refused slot by fixed priority changes something");
     printf("refused\t%lu\t%zu\t%zu\n", (unsigned long)refusal, line, field);
     free(text);
     return bad;

@@ -47,6 +47,16 @@ typedef struct {
 
 typedef struct {
     fault fault;
+    uint32_t admitted, judged;
+} fixed_verdict;
+
+typedef struct {
+    fault fault;
+    uint32_t work, bound, deadline, judged;
+} fixed_bounds;
+
+typedef struct {
+    fault fault;
     uint32_t hyper;
     size_t numbers;
 } superframe;
@@ -79,6 +89,10 @@ verdict probe_verdict(flow_set s);
 bounds probe_bounds(flow_set s, uint16_t k);
 stepped probe_step(flow_set s, machine_state st);
 ran probe_run(flow_set s, uint32_t budget);
+fixed_verdict probe_fixed_verdict(flow_set s);
+fixed_bounds probe_fixed_bounds(flow_set s, uint16_t k);
+stepped probe_fixed_step(flow_set s, machine_state st);
+ran probe_fixed_run(flow_set s, uint32_t budget);
 superframe probe_superframe_size(flow_set s);
 superframe probe_superframe(flow_set s, uint16_t *table, size_t room);
 
@@ -105,6 +119,10 @@ static void refused(const char *what, flow_set s, uint32_t refusal, size_t line)
     is(what, probe_bounds(s, 0).fault, refusal, line);
     is(what, probe_step(s, fresh).fault, refusal, line);
     is(what, probe_run(s, 3).fault, refusal, line);
+    is(what, probe_fixed_verdict(s).fault, refusal, line);
+    is(what, probe_fixed_bounds(s, 0).fault, refusal, line);
+    is(what, probe_fixed_step(s, fresh).fault, refusal, line);
+    is(what, probe_fixed_run(s, 3).fault, refusal, line);
     is(what, probe_superframe_size(s).fault, refusal, line);
     is(what, probe_superframe(s, table, 4).fault, refusal, line);
 }
@@ -148,9 +166,12 @@ int main(void)
     refused("links times tries above the deadline", with(good, 0, 10, 1, 1, 3, 2), 9, 2);
     is("no room", probe_write(good, NULL, 0).fault, 10, 0);
     is("the last slot", probe_step(good, st).fault, 11, 0);
+    is("the last slot by fixed priority", probe_fixed_step(good, st).fault, 11, 0);
     st.slot++;
     is("a slot above the last", probe_step(good, st).fault, 12, 0);
+    is("a slot above the last by fixed priority", probe_fixed_step(good, st).fault, 12, 0);
     is("no such flow", probe_bounds(good, 2).fault, 13, 0);
+    is("no such flow by fixed priority", probe_fixed_bounds(good, 2).fault, 13, 0);
     printf("records: %d checks, %d failed\n", checks, failures);
     return failures != 0;
 }

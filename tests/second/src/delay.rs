@@ -121,7 +121,7 @@ pub(crate) struct Others {
 
 impl Others {
     /// No other flow.
-    const NONE: Others = Others { remainder: [0; MOST_FLOWS], s: [0; MOST_FLOWS], whole: 0, conflict: 0 };
+    pub(crate) const NONE: Others = Others { remainder: [0; MOST_FLOWS], s: [0; MOST_FLOWS], whole: 0, conflict: 0 };
 }
 
 /// Up to here sums go over this many places, beyond it over all 64: a fixed number of places is added eight at a time.
@@ -279,7 +279,7 @@ impl<const SLIP: u8> PlannerWith<SLIP> {
 /// S of every pair: `others[k].s[l]`. The flows that a link counts for are those whose routes have one of its two ends,
 /// so each route is searched once and not once for each flow. A link that stands again in l's route counts again there;
 /// how often k's route has its ends makes no difference, one bit says that it has.
-fn conflicts(flows: &[Flow], others: &mut [Others]) {
+pub(crate) fn conflicts(flows: &[Flow], others: &mut [Others]) {
     let mut users = Users::room(flows);
     let places: Vec<_> = flows.iter().enumerate().map(|(k, flow)| users.enter(k, flow)).collect();
     for (l, flow) in flows.iter().enumerate() {

@@ -2,9 +2,10 @@
 //! The text is read before anything else is tested, with the reader's refusals.
 
 use crate::delay::{Bound, Planner, Verdict};
-use crate::machine::{Machine, Slot};
+use crate::machine::{MachineWith, Slot, BY_DEADLINE, BY_NUMBER};
 use crate::read::read;
 use crate::record::{Refusal, State, MOST_FLOWS};
+use crate::slip;
 use crate::write::{lend, put_line, Written};
 
 /// A state's bytes: the slot in four, then one count for each of 64 flows.
@@ -53,16 +54,29 @@ pub fn all_bounds_of_text(text: &[u8], table: &mut [u32]) -> (Refusal, usize) {
 /// further bytes stay. Refusals in document 01's order: the text's, 12 (also for a length other than 68), 11, 10;
 /// refused, it leaves both buffers alone.
 pub fn step_of_text(text: &[u8], state: &mut [u8], buffer: &mut [u8]) -> Written {
+    step_by::<BY_DEADLINE>(text, state, buffer)
+}
+
+/// The C step by fixed priority, with the same refusals.
+pub fn fixed_step_of_text(text: &[u8], state: &mut [u8], buffer: &mut [u8]) -> Written {
+    step_by::<BY_NUMBER>(text, state, buffer)
+}
+
+fn step_by<const ORDER: u8>(text: &[u8], state: &mut [u8], buffer: &mut [u8]) -> Written {
     let read = read(text);
     if read.refusal.refuses() {
         return Written { refusal: read.refusal, bytes: 0 };
     }
     let t = state_of_bytes(state).map_or(0, |state| state.slot);
-    step_of_bytes(&mut Machine::prepared(&read.set, t), state, buffer)
+    step_of_bytes(&mut MachineWith::<{ slip::NONE }, ORDER>::prepared(&read.set, t), state, buffer)
 }
 
 /// The C step of a machine that was prepared before: 12, 11, 10, and only then the two buffers.
-pub fn step_of_bytes(machine: &mut Machine, state: &mut [u8], buffer: &mut [u8]) -> Written {
+pub fn step_of_bytes<const ORDER: u8>(
+    machine: &mut MachineWith<{ slip::NONE }, ORDER>,
+    state: &mut [u8],
+    buffer: &mut [u8],
+) -> Written {
     let Some(mut next) = state_of_bytes(state) else {
         return Written { refusal: Refusal::at(12, 0), bytes: 0 };
     };

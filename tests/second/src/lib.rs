@@ -4,7 +4,7 @@
 //! One section of document 01 stands in one module: the flow set in [`record`], refusals in [`check`] and [`read`],
 //! the writer in [`write`], the two delay tests in [`delay`], the slot machine in [`machine`], what C sees in
 //! [`host`], the plan program in [`plan`]. Request 2 of document 02 stands in [`superframe`], and in [`table`] what it
-//! says of lines; request 3 in [`field`]. [`inputs`] draws sets, texts, records, states and tables from a seed, and [`slip`]
+//! says of lines; request 3 in [`field`]; request 4 in [`fixed`]. [`inputs`] draws sets, texts, records, states and tables from a seed, and [`slip`]
 //! keeps the wrong rules that the tests must catch.
 #![forbid(unsafe_code)]
 #![warn(missing_docs)]
@@ -12,6 +12,7 @@
 pub mod check;
 pub mod delay;
 pub mod field;
+pub mod fixed;
 pub mod host;
 pub mod inputs;
 pub mod machine;
@@ -25,7 +26,8 @@ pub mod write;
 
 pub use check::check;
 pub use delay::{bound, verdict, Bound, Delays, Planner, Verdict};
-pub use machine::{step, Delivered, Machine, Slot, Step, Transmission};
+pub use fixed::{fixed_bound, fixed_text, fixed_verdict, Fixed, FixedBound, FixedVerdict};
+pub use machine::{fixed_step, step, Delivered, FixedMachine, Machine, Slot, Step, Transmission};
 pub use plan::plan;
 pub use read::{read, Read};
 pub use record::{same, Flow, Refusal, Set, State, LAST_MADE, REFUSALS};

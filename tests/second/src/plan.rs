@@ -42,15 +42,20 @@ fn plan_of(set: &Set) -> Vec<u8> {
 }
 
 /// The text of a plan, from what the tests found out and a machine's step.
-pub fn print(delays: &Delays, mut step: impl FnMut(&mut State, &mut Slot)) -> Vec<u8> {
+pub fn print(delays: &Delays, step: impl FnMut(&mut State, &mut Slot)) -> Vec<u8> {
     let mut text = Vec::new();
     put_delays(&mut text, delays);
+    put_slots(&mut text, step);
+    text
+}
+
+/// The `send` lines of a machine's steps from the fresh state through slot 11.
+pub(crate) fn put_slots(text: &mut Vec<u8>, mut step: impl FnMut(&mut State, &mut Slot)) {
     let (mut state, mut slot) = (State::FRESH, Slot::new());
     for t in 0..=LAST_PRINTED {
         step(&mut state, &mut slot);
-        put_sends(&mut text, t, &slot);
+        put_sends(text, t, &slot);
     }
-    text
 }
 
 /// `verdict`: basic, tightened, rounds. `bound`: flow, C, basic, tightened, deadline, margin.

@@ -1,8 +1,8 @@
 //! Wrong rules, put in one at a time: the tests of the tests. Document 01's "Easy slips", then what its first section
-//! says "this paper decides", then what could be taken for requests 1 to 3 of document 02. A slip is a constant of the
-//! types [`PlannerWith`] and [`MachineWith`](crate::machine::MachineWith), of [`check_with`](crate::check::check_with) and
-//! [`read_with`](crate::read::read_with), or of the functions of [`superframe`](crate::superframe), so the right rules
-//! ([`NONE`]) pay nothing for them.
+//! says "this paper decides", then what could be taken for requests 1 to 4 of document 02. A slip is a constant of the
+//! types [`PlannerWith`] and [`MachineWith`](crate::machine::MachineWith), of [`check_with`](crate::check::check_with),
+//! [`read_with`](crate::read::read_with) and [`fixed_with`](crate::fixed::fixed_with), or of the functions of
+//! [`superframe`](crate::superframe), so the right rules ([`NONE`]) pay nothing for them.
 
 use crate::delay::{Others, PlannerWith};
 use crate::field::fields;
@@ -22,7 +22,7 @@ pub const PACKET_TOO_FEW: u8 = 4;
 pub const BELOW_ZERO: u8 = 5;
 /// The same in another shape: the window ends one slot before l's deadline.
 pub const SHORT_WINDOW: u8 = 13;
-/// Equal deadlines: the higher flow number goes first.
+/// The higher flow number goes first, of equal deadlines or of all.
 pub const HIGHER_FIRST: u8 = 6;
 /// Entries of the list may rise above the deadline.
 pub const NO_CLAMP: u8 = 7;
@@ -60,6 +60,22 @@ pub const EMPTY_LINE: u8 = 23;
 pub const KEPT_FIELDS: u8 = 24;
 /// Fields are counted in 16 bits.
 pub const SHORT_COUNT: u8 = 25;
+/// n is rounded down.
+pub const ROUND_DOWN: u8 = 26;
+/// n without the bound of l.
+pub const NO_BOUND: u8 = 27;
+/// n as if every packet of l were through in its release slot.
+pub const BOUND_OF_ONE: u8 = 28;
+/// n without its − 1.
+pub const NO_LESS_ONE: u8 = 29;
+/// Flows after the first over its deadline are judged too.
+pub const JUDGE_ON: u8 = 30;
+/// The flow over its deadline has bound 0.
+pub const OVER_IS_ZERO: u8 = 31;
+/// A flow's own packets count too: l up to k.
+pub const OWN_PACKETS: u8 = 32;
+/// The conflict share is divided by m too.
+pub const SHARE_CONFLICTS: u8 = 33;
 
 /// Whether a slip is one of the equation's.
 pub(crate) const fn changes_value(slip: u8) -> bool {

@@ -1,23 +1,15 @@
 -- The plan lies within the buffer that was lent for it.
-use mathlib.Core.Path.{_≡_, sym, ap}
-use mathlib.Core.List.{List}
-use Prim.Native.Nat.{ℕ, _≤_}
+use mathlib.Core.Path.{sym}
+use Prim.Native.Nat.{ℕ}
 use native.Mathlib.Omega.{arith}
-use lib.ListN.{length, length-replicate}
+use lib.ListN.{length-replicate}
 use lib.Seq.{length-take-le}
-use Rattle.model.specs.declared.answers.Written.{Written}
-use Rattle.document.specs.Reader.{wrote}
-use Rattle.document.specs.Program.{planText}
-use Rattle.plan_text.specs.PlanInBuffer.{text-le}
+use Rattle.model.specs.declared.kinds.Order.the-variants.{Deadline}
+use Rattle.plan_text.specs.PlanInBuffer.{within}
 use Rattle.plan_text.specs.PlanOfReading.{mostPlan}
 use borrow.Author.Needs.{needs}
 use Rattle.plan.proofs.print_plan.Statement.{statement}
 use Rattle.plan.proofs.print_plan.Tie as tie
-
-within : {w : Written} (input out : List ℕ) → w ≡ wrote (length (planText input)) → length out ≡ mostPlan → w .length ≤ length out
-within input out e h =
-    let b = ap (λ (x : Written). x .length) e in
-    omega (arith, text-le input, b, h)
 
 whole-plan-requires : tie.Need-whole-plan-requires
 whole-plan-requires c κs = omega (arith, length-replicate {A = ℕ} mostPlan 0)
@@ -25,12 +17,12 @@ whole-plan-requires c κs = omega (arith, length-replicate {A = ℕ} mostPlan 0)
 array-share-prefix-out : tie.Need-array-share-prefix-out
 array-share-prefix-out c =
     let made = c .before .before .before .before .whole-plan in
-    within _ (made .last .1 .0) (made .ensures .0) (c .before .before .before .out2 .given)
+    within Deadline _ (made .last .1 .0) (made .ensures .0) (c .before .before .before .out2 .given)
 
 slice-aggregate-write-all-2 : tie.Need-slice-aggregate-write-all-2
 slice-aggregate-write-all-2 c =
     let made = c .before .before .before .before .before .whole-plan in
-    sym (length-take-le _ (made .last .1 .0) (within _ (made .last .1 .0) (made .ensures .0) (c .before .before .before .before .out2 .given)))
+    sym (length-take-le _ (made .last .1 .0) (within Deadline _ (made .last .1 .0) (made .ensures .0) (c .before .before .before .before .out2 .given)))
 
 pub print-plan-spec : {M : Type 1} → statement M
 print-plan-spec =

@@ -1,4 +1,4 @@
--- The plan is put, or the line of the refusal.
+-- What is said of the set is put, or the line of the refusal.
 use Prim.{tt}
 use mathlib.Core.Path.{sym, _∙_}
 use Rattle.text.specs.NamedLine.{refused-line}
@@ -17,25 +17,27 @@ returns c =
     let p = c .before .before in
     let k = p .before .before .before in
     let d = k .before .before in
-    let r = d .before .before .before .before .args .reading in
-    let e = read-refused r (refuses (r .fault) (d .before .refuses .ensures) (d .if1 .taken)) in
+    let a = d .before .before .before .before .args in
+    let r = a .reading in
+    let e = read-refused (a .by) r (refuses (r .fault) (d .before .refuses .ensures) (d .if1 .taken)) in
     put-same _ _ _ _ _ _ (refused-line (r .fault) _ (k .code .ensures) ∙ sym e) (p .put-refused .ensures)
 
-put-plan-requires : tie.Need-put-plan-requires
-put-plan-requires c κs =
+put-set-requires : tie.Need-put-set-requires
+put-set-requires c κs =
     let d = c .before .before in
     let o = d .before .before .before .before in
     o .pre .0 (accepts (o .args .reading .fault) (d .before .refuses .ensures) (d .if1 .left))
 
 same-length-2 : tie.Need-same-length-2
-same-length-2 c = c .before .before .put-plan .kept .0
+same-length-2 c = c .before .before .put-set .kept .1 .0
 
 returns-2 : tie.Need-returns-2
 returns-2 c =
     let d = c .before .before .before .before .before in
-    let r = d .before .before .before .before .args .reading in
-    let e = read-good r (accepts (r .fault) (d .before .refuses .ensures) (d .if1 .left)) in
-    put-same _ _ _ _ _ _ (sym e) (c .before .before .put-plan .ensures)
+    let a = d .before .before .before .before .args in
+    let r = a .reading in
+    let e = read-good (a .by) r (accepts (r .fault) (d .before .refuses .ensures) (d .if1 .left)) in
+    put-same _ _ _ _ _ _ (sym e) (c .before .before .put-set .ensures)
 
 pub put-reading-spec : {M : Type 1} → statement M
 put-reading-spec =
@@ -49,6 +51,6 @@ put-reading-spec =
     (λ c κs. tt)
     same-length
     returns
-    put-plan-requires
+    put-set-requires
     same-length-2
     returns-2)

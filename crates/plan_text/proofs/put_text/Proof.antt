@@ -7,7 +7,7 @@ use lib.ListN.{length}
 use borrow.Author.Tests.{ltb-false}
 use Rattle.text.specs.Put.{put-same}
 use Rattle.document.specs.Program.{mostInput}
-use Rattle.plan_text.specs.PlanOfReading.{planRead}
+use Rattle.plan_text.specs.PlanOfReading.{printRead}
 use Rattle.promise.specs.TextHeld.{text-passes}
 use Rattle.laws.specs.{LinesRead.{read-line-le}, NamedFields.{field-le}}
 use Rattle.plan_text.specs.PlanInBuffer.{text-long, text-short}
@@ -21,7 +21,7 @@ returns : tie.Need-returns
 returns c =
     let test = c .before .before .before .before in
     let input = test .before .before .before .before .args .input .now in
-    let e = text-long input (sym (test .before .is-too-long .ensures) ∙ test .if1 .taken) in
+    let e = text-long (test .before .before .before .before .args .by) input (sym (test .before .is-too-long .ensures) ∙ test .if1 .taken) in
     put-same _ _ _ _ _ _ (sym e) (c .before .before .put-too-long .ensures)
 
 put-reading-requires : tie.Need-put-reading-requires
@@ -33,14 +33,15 @@ put-reading-requires c κs =
     (λ g. rw r (text-passes input (rw (← r) g)), (rw r (read-line-le input), rw r (omega (arith, field-le input, l))))
 
 same-length-2 : tie.Need-same-length-2
-same-length-2 c = c .before .before .put-reading .kept .0
+same-length-2 c = c .before .before .put-reading .kept .1 .0
 
 returns-2 : tie.Need-returns-2
 returns-2 c =
     let test = c .before .before .before .before .before in
     let input = test .before .before .before .before .args .input .now in
-    let l = text-short input (sym (test .before .is-too-long .ensures) ∙ test .if1 .left) in
-    let e = l ∙ ap planRead (sym (c .before .before .before .before .read .ensures .0)) in
+    let by = test .before .before .before .before .args .by in
+    let l = text-short by input (sym (test .before .is-too-long .ensures) ∙ test .if1 .left) in
+    let e = l ∙ ap (printRead by) (sym (c .before .before .before .before .read .ensures .0)) in
     put-same _ _ _ _ _ _ (sym e) (c .before .before .put-reading .ensures)
 
 pub put-text-spec : {M : Type 1} → statement M

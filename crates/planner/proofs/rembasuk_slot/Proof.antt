@@ -1,37 +1,10 @@
--- `rembasuk_slot` numbers the slot of what was read, and hands both buffers on. Assumes nothing.
-use mathlib.Core.Path.{ap, _∙_}
-use lib.ListN.{length}
-use Rattle.model.specs.declared.answers.Reading.{Reading}
-use Rattle.document.specs.Program.{slotState, slotBuffer}
-use Rattle.document.specs.ForC.{slotAnswerWith, slotForCWith, slotNumbers}
-use Rattle.document.specs.Machine.{ahead}
-use Rattle.promise.specs.TextHeld.{text-passes}
+-- `rembasuk_slot` is `slot_of_text` with document 01's order. Assumes nothing.
 use borrow.Author.Needs.{needs}
 use Rattle.planner.proofs.rembasuk_slot.Statement.{statement}
 use Rattle.planner.proofs.rembasuk_slot.Tie as tie
 
-slot-of-reading-requires : tie.Need-slot-of-reading-requires
-slot-of-reading-requires c κs =
-    let o = c .before .before in
-    rw (o .read .ensures .0) (text-passes (o .before .before .before .before .args .text .now))
-
 returns : tie.Need-returns
-unfolding slotForCWith
-returns c =
-    let s = c .before .before .before .before .before in
-    let o = s .before .before .before in
-    let a = o .before .before .before .before .args in
-    let w = s .slot-of-reading .ensures in
-    let r = o .read .ensures .0 in
-    let room = length (a .lines .now) in (
-      c .slot-numbers .ensures ∙ ap slotNumbers (w .0 ∙ ap (λ (x : Reading). slotAnswerWith ahead x (a .state .now) room) r),
-      (
-        w .1 .0 ∙ ap (λ (x : Reading). slotState x (a .state .now) room) r,
-        w .1 .1 ∙ ap (λ (x : Reading). slotBuffer x (a .state .now) (a .lines .now)) r,
-      ),
-    )
+returns c = c .before .before .before .before .slot-of-text .ensures
 
 pub rembasuk-slot-spec : {M : Type 1} → statement M
-rembasuk-slot-spec =
-    tie.close
-    (tie.spec (λ c κs. search needs) slot-of-reading-requires (λ c κs. search needs) (λ c. search needs) (λ c. search needs) returns)
+rembasuk-slot-spec = tie.close (tie.spec (λ c κs. search needs) (λ c. search needs) (λ c. search needs) returns)

@@ -4,13 +4,15 @@
 //! anything is measured the answers are compared. Rows are what C calls unless they say otherwise; both sides start from the same text, and
 //! a row that is not like with like says so.
 
-use compare::Record;
-use second::host::{all_bounds_of_text, bound_of_text, bytes_of_state, step_of_bytes, step_of_text, verdict_of_text};
+use compare::{Ran, Record};
+use second::fixed::fixed_verdict_of_text;
+use second::host::{all_bounds_of_text, bound_of_text, bytes_of_state, fixed_step_of_text, step_of_bytes, step_of_text, verdict_of_text};
 use second::inputs::{ring64, sets, superframes, Rng};
+use second::machine::{MachineWith, BY_DEADLINE, BY_NUMBER};
 use second::superframe::{superframe_of_text, superframe_size_of_text};
 use second::table::lines_of;
 use second::write::text_of;
-use second::{Machine, Set, Slot, State};
+use second::{slip, Machine, Set, Slot, State, Step};
 use std::fs::File;
 use std::hint::black_box;
 use std::path::{Path, PathBuf};
@@ -168,6 +170,7 @@ fn main() {
     refused(&mut rows, &inputs);
     bounds(&mut rows, &inputs);
     slots(&mut rows, &inputs);
+    ranked(&mut rows, &inputs);
     loading(&mut rows, &inputs);
     programs(&mut rows, &root);
     records(&mut rows, &inputs);
@@ -206,6 +209,8 @@ struct Inputs {
     nursery: Input,
     alike: Input,
     full: Input,
+    roomy: Input,
+    roomy_full: Input,
     loops: Input,
     ring: Input,
     spread: Input,
@@ -225,6 +230,8 @@ impl Inputs {
             nursery: Input::new("the nursery, 14 flows", second::read(&nursery).set),
             alike: Input::new("9 flows of 17 nodes alike modulo 256", sets::alike(9)),
             full: Input::new("64 flows of 17 nodes", few(64)),
+            roomy: Input::new("8 flows of 17 nodes, deadlines at their periods", sets::roomy(8)),
+            roomy_full: Input::new("64 flows of 17 nodes, deadlines at their periods", sets::roomy(64)),
             loops: Input::new("64 loops of 17 nodes, out and back over the same", sets::loops()),
             ring: Input::new(format!("the ring, 64 flows, {rounds} rounds"), ring64()),
             spread: Input::new("64 flows of one link, 6 % of the slots busy", sets::spread(1024, 16)),
@@ -237,7 +244,8 @@ impl Inputs {
 }
 
 fn verdicts<'a>(rows: &mut Vec<Row<'a>>, inputs: &'a Inputs) {
-    for input in [&inputs.one, &inputs.eight, &inputs.nursery, &inputs.alike, &inputs.full, &inputs.loops, &inputs.ring] {
+    let flows = [&inputs.one, &inputs.eight, &inputs.nursery, &inputs.alike, &inputs.full];
+    for input in flows.into_iter().chain([&inputs.roomy, &inputs.roomy_full, &inputs.loops, &inputs.ring]) {
         let text = &input.text;
         rows.push(Row::new(
             format!("verdict: {}", input.name),
@@ -305,6 +313,27 @@ fn slots<'a>(rows: &mut Vec<Row<'a>>, inputs: &'a Inputs) {
     let second = walk(input, move |state, lines| step_of_bytes(&mut machine, state, lines).bytes);
     let name = "one slot: the nursery; not like with like: the second planner's machine was prepared once, it reads no text";
     rows.push(Row::new(name, walk_proved(input), second).per(SLOTS));
+}
+
+/// Fixed priority: the verdict of sets whose verdicts stand above, some of them judged to the last flow; and slots of the sets whose slots are
+/// the same under both orders.
+fn ranked<'a>(rows: &mut Vec<Row<'a>>, inputs: &'a Inputs) {
+    for input in [&inputs.one, &inputs.eight, &inputs.full, &inputs.roomy, &inputs.roomy_full] {
+        let text = &input.text;
+        rows.push(Row::new(
+            format!("verdict by fixed priority: {}", input.name),
+            move || compare::text_fixed_verdict(black_box(text)).judged.into(),
+            move || fixed_verdict_of_text(black_box(text)).judged.into(),
+        ));
+    }
+    for input in [&inputs.spread, &inputs.busy] {
+        let text = &input.text;
+        rows.push(Row::new(
+            format!("one slot by fixed priority: {}", input.name),
+            walk(input, move |state, lines| compare::text_fixed_slot(black_box(text), state, lines).length),
+            walk(input, move |state, lines| fixed_step_of_text(black_box(text), state, lines).bytes),
+        ).per(SLOTS));
+    }
 }
 
 /// The superframe's size and its table; and the lines of the longest one, written and read.
@@ -379,6 +408,7 @@ fn programs<'a>(rows: &mut Vec<Row<'a>>, root: &Path) {
         ("plan", "the program, a whole process: no input, which is refused: its start", "/dev/null"),
         ("superframe", "the program superframe, a whole process: the nursery with every start 0", "examples/nursery_starts_0.set"),
         ("superframe", "the program superframe, a whole process: F3, some 12 MB of lines", "target/f3.set"),
+        ("fixed", "the program fixed, a whole process: the nursery", "examples/nursery.set"),
     ];
     for (program, name, input) in runs {
         let [proved, second] = ["target/bin", "tests/second/target/release"].map(|folder| root.join(folder).join(program));
@@ -404,34 +434,52 @@ fn records<'a>(rows: &mut Vec<Row<'a>>, inputs: &'a Inputs) {
         move || second::write(black_box(set), black_box(&mut theirs)).bytes as u64,
     ));
     for input in [&inputs.spread, &inputs.busy] {
-        step(rows, input);
-        run(rows, input);
+        step(rows, input, DEADLINE);
+        run(rows, input, DEADLINE);
+    }
+    // all packets of `busy` have one deadline and `spread` has one packet at a time, so their slots are the same under both orders
+    for input in [&inputs.spread, &inputs.busy] {
+        step(rows, input, NUMBER);
+        run(rows, input, NUMBER);
     }
 }
 
+/// What both planners call by one order of priority.
+struct Order<const ORDER: u8> {
+    /// What a row's name says of it.
+    by: &'static str,
+    step: fn(&Record, &State) -> (State, u16),
+    second_step: fn(&Set, &State) -> Step,
+    run: fn(&Record, u32) -> Ran,
+}
+
+const DEADLINE: Order<BY_DEADLINE> = Order { by: "", step: Record::step_only, second_step: second::step, run: Record::run };
+const NUMBER: Order<BY_NUMBER> =
+    Order { by: " by fixed priority", step: Record::fixed_step_only, second_step: second::fixed_step, run: Record::fixed_run };
+
 /// A step of a record, which both check; then beside a machine that was prepared once.
-fn step<'a>(rows: &mut Vec<Row<'a>>, input: &'a Input) {
-    let (set, state) = (&input.set, input.state());
+fn step<'a, const ORDER: u8>(rows: &mut Vec<Row<'a>>, input: &'a Input, order: Order<ORDER>) {
+    let (set, state, by) = (&input.set, input.state(), order.by);
     let proved = move || {
         let record = Record::new(set);
         steps(state, move |state| {
-            let (next, sends) = black_box(&record).step_only(state);
+            let (next, sends) = (order.step)(black_box(&record), state);
             *state = next;
             sends.into()
         })
     };
     let second = steps(state, move |state| {
-        let step = second::step(black_box(set), state);
+        let step = (order.second_step)(black_box(set), state);
         *state = step.state;
         step.slot.sends.len() as u64
     });
-    rows.push(Row::new(format!("a step of a record, checked by both: {}", input.name), proved(), second).per(SLOTS));
-    let (Ok(mut machine), mut slot) = (Machine::new(set), Slot::new()) else { return };
+    rows.push(Row::new(format!("a step of a record{by}, checked by both: {}", input.name), proved(), second).per(SLOTS));
+    let (Ok(mut machine), mut slot) = (MachineWith::<{ slip::NONE }, ORDER>::new(set), Slot::new()) else { return };
     let prepared = steps(state, move |state| {
         machine.step(state, &mut slot);
         slot.sends.len() as u64
     });
-    let name = format!("a step of a record: {}; not like with like: the second planner's machine was prepared once", input.name);
+    let name = format!("a step of a record{by}: {}; not like with like: the second planner's machine was prepared once", input.name);
     rows.push(Row::new(name, proved(), prepared).per(SLOTS));
 }
 
@@ -444,9 +492,9 @@ fn steps<'a>(first: State, mut step: impl FnMut(&mut State) -> u64 + 'a) -> impl
 }
 
 /// A run from the fresh state beside as many steps of a machine that was prepared once.
-fn run<'a>(rows: &mut Vec<Row<'a>>, input: &'a Input) {
+fn run<'a, const ORDER: u8>(rows: &mut Vec<Row<'a>>, input: &'a Input, order: Order<ORDER>) {
     let (record, mut slot) = (Record::new(&input.set), Slot::new());
-    let Ok(mut machine) = Machine::new(&input.set) else { return };
+    let Ok(mut machine) = MachineWith::<{ slip::NONE }, ORDER>::new(&input.set) else { return };
     let second = move || {
         let (mut state, mut delivered) = (State::FRESH, 0);
         for _ in 0..RUN {
@@ -455,6 +503,6 @@ fn run<'a>(rows: &mut Vec<Row<'a>>, input: &'a Input) {
         }
         delivered
     };
-    let name = format!("a slot of a run: {}; not like with like: the proved one lists no sends", input.name);
-    rows.push(Row::new(name, move || black_box(&record).run(RUN).delivered, second).per(RUN));
+    let name = format!("a slot of a run{}: {}; not like with like: the proved one lists no sends", order.by, input.name);
+    rows.push(Row::new(name, move || (order.run)(black_box(&record), RUN).delivered, second).per(RUN));
 }

@@ -1,10 +1,11 @@
 //! Texts that the proved reader reads and the proved writer writes again where they are accepted, and the plan's line where they are not;
-//! records that it writes, and buffers on either side of a text's length; sets of which it says how long the superframe is; and a table's
-//! lines, read and written again. What must be printed stands in tests/cases/stdout, from documents 01 and 02 and not from this program.
-//! Usage: cases FOLDER; of its files `texts`, `sets` and `lines` each line is a label, a tab, and the text in one line.
+//! records that it writes, and buffers on either side of a text's length; sets of which it says how long the superframe is; a table's
+//! lines, read and written again; and sets by fixed priority. What must be printed stands in tests/cases/stdout, from documents 01 and 02 and
+//! not from this program.
+//! Usage: cases FOLDER; of its files `texts`, `sets`, `lines` and `ranked` each line is a label, a tab, and the text in one line.
 
 use compare::{read, Fault, Lined, Record, Written};
-use second::Set;
+use second::{Set, State};
 use std::path::Path;
 
 /// The byte that one of the table stands for: `|` a tab, `$` LF, `%` CR, `@` NUL, `<` and `>` 128 and 255, `{`, `}` and `~` the three of a
@@ -57,6 +58,24 @@ fn lines_case(label: &str, text: &[u8]) {
     let Lined { refusal, line, length } = compare::table_read(text, &mut table);
     let n = compare::table_write(&table[..length], &mut out).length;
     println!("{label}\t{refusal}\t{line}\t{}", if out[..n] == *text { length } else { 0 });
+}
+
+/// Of a set by fixed priority number, line and field, 1 if it is admitted, how many flows are judged, their bounds, and slot and flow of
+/// each send and of each drop up to slot 11.
+fn ranked_case(label: &str, text: &[u8]) {
+    let verdict = compare::text_fixed_verdict(text);
+    let record = Record::new(&read(text).1);
+    let bounds = (0..).map(|k| compare::text_fixed_bounds(text, k)).take_while(|answer| answer.fault.refusal == 0);
+    let bounds: Vec<String> = bounds.map(|answer| answer.bound.to_string()).collect();
+    let (mut state, mut sends, mut drops) = (State::FRESH, Vec::new(), Vec::new());
+    for t in 0..12 {
+        let step = record.fixed_step(&state);
+        sends.extend(step.sends.iter().map(|sent| format!("{t}:{}", sent.flow)));
+        drops.extend(step.dropped.iter().map(|flow| format!("{t}:{flow}")));
+        state = step.next;
+    }
+    let lists = [bounds, sends, drops].map(|list| list.join(" ")).join("\t");
+    println!("{label}\t{}\t{}\t{}\t{lists}", told(verdict.fault), verdict.admitted, verdict.judged);
 }
 
 fn written(label: &str, set: &Set, size: usize) {
@@ -116,4 +135,5 @@ fn main() {
     }
     each(&Path::new(&folder).join("sets"), set_case);
     each(&Path::new(&folder).join("lines"), lines_case);
+    each(&Path::new(&folder).join("ranked"), ranked_case);
 }

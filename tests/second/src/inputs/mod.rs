@@ -1,9 +1,10 @@
 //! Inputs for comparing planners, drawn from a seed: [`sets`] small and large and on either side of a line,
 //! [`texts`] damaged from good ones, [`records`] with garbage where nothing counts, and states good and bad;
-//! [`superframes`], sets to be loaded, and [`tables`] with their lines good and damaged; and sets with a name, [`named`],
-//! whose answers were found by hand.
+//! [`superframes`], sets to be loaded, and [`tables`] with their lines good and damaged; [`ranked`], sets for fixed
+//! priority; and sets with a name, [`named`], whose answers were found by hand.
 
 pub mod named;
+pub mod ranked;
 pub mod records;
 pub mod sets;
 pub mod superframes;

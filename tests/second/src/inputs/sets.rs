@@ -229,7 +229,7 @@ pub fn edge(rng: &mut Rng) -> Set {
 }
 
 /// A deadline moved to where the flow is still good: from C to T.
-fn lawful(flow: &Flow, deadline: usize) -> u16 {
+pub(super) fn lawful(flow: &Flow, deadline: usize) -> u16 {
     deadline.clamp(flow.c() as usize, usize::from(flow.period)) as u16
 }
 
@@ -255,7 +255,7 @@ pub fn tight(rng: &mut Rng) -> Set {
 }
 
 /// Often makes the periods multiples of the first, so that windows end at deadlines (r = 0).
-fn round_periods(rng: &mut Rng, set: &mut Set) {
+pub(super) fn round_periods(rng: &mut Rng, set: &mut Set) {
     if rng.once_in(3) {
         return;
     }
@@ -282,7 +282,7 @@ pub(super) fn pull_in(rng: &mut Rng, set: &mut Set) {
 }
 
 /// Chooses starts: releases together, absolute deadlines together, or as drawn.
-fn align(rng: &mut Rng, set: &mut Set) {
+pub(super) fn align(rng: &mut Rng, set: &mut Set) {
     let together = rng.within(24, 60) as u16;
     let way = rng.below(4);
     for flow in &mut set.flows[..usize::from(set.count)] {
@@ -323,6 +323,15 @@ fn full_of(rng: &mut Rng, pool: usize) -> Set {
         loops: false,
     };
     draw(rng, &shape)
+}
+
+/// The first of these flows with deadlines at their periods, for measuring: by fixed priority the test judges all of them.
+pub fn roomy(flows: u16) -> Set {
+    let mut set = Set { count: flows, ..full(&mut Rng::new(1)) };
+    for flow in &mut set.flows {
+        flow.deadline = flow.period;
+    }
+    set
 }
 
 /// 64 flows of 17 nodes at every limit, for measuring: each goes out over nine nodes and comes back over the same.

@@ -4,16 +4,17 @@
 use crate::definition::{self, Equation};
 use second::check::check_with;
 use second::delay::{Delays, PlannerWith};
+use second::fixed::fixed_with;
 use second::inputs::{named, records, sets, texts, Rng};
-use second::machine::MachineWith;
+use second::machine::{MachineWith, BY_DEADLINE, BY_NUMBER};
 use second::plan::print;
 use second::read::read_with;
 use second::slip;
 use second::superframe::{hyper_with, sends_by_table, table_of};
-use second::{read, Flow, Read, Refusal, Set, Slot, State, Transmission};
+use second::{read, Fixed, Flow, Read, Refusal, Set, Slot, State, Transmission};
 
-/// The rules to try: a reader's, those of a record, a planner's, a machine's and a superframe's, any of them with a slip in
-/// it.
+/// The rules to try: a reader's, those of a record, a planner's, a machine's, a superframe's and those of fixed priority, any
+/// of them with a slip in it.
 #[derive(Clone, Copy)]
 pub struct Rules {
     pub read: fn(&[u8]) -> Read,
@@ -26,6 +27,9 @@ pub struct Rules {
     pub table: fn(&Set, u32) -> Vec<u16>,
     /// What a table of so many slots has for a slot.
     pub by_table: fn(&Set, &[u16], u32, u32) -> Vec<Transmission>,
+    /// The test for fixed priority, and its machine.
+    pub fixed: fn(&Set) -> Fixed,
+    pub fixed_machine: fn(&Set) -> Box<dyn Steps>,
 }
 
 /// A machine with whatever rules.
@@ -34,7 +38,7 @@ pub trait Steps {
     fn step(&mut self, state: &mut State, slot: &mut Slot) -> Refusal;
 }
 
-impl<const SLIP: u8> Steps for MachineWith<SLIP> {
+impl<const SLIP: u8, const ORDER: u8> Steps for MachineWith<SLIP, ORDER> {
     fn judge(&self, state: &State) -> Refusal {
         self.judge(state)
     }
@@ -49,10 +53,12 @@ pub const RIGHT: Rules = Rules {
     read: read_with::<{ slip::NONE }>,
     check: check_with::<{ slip::NONE }>,
     delays: delays::<{ slip::NONE }>,
-    machine: machine::<{ slip::NONE }>,
+    machine: machine::<{ slip::NONE }, BY_DEADLINE>,
     hyper: hyper_with::<{ slip::NONE }>,
     table: table_of::<{ slip::NONE }>,
     by_table: sends_by_table::<{ slip::NONE }>,
+    fixed: fixed_with::<{ slip::NONE }>,
+    fixed_machine: machine::<{ slip::NONE }, BY_NUMBER>,
 };
 
 /// A slip in the reader.
@@ -72,7 +78,17 @@ pub fn planner_slip<const SLIP: u8>() -> Rules {
 
 /// A slip in the machine.
 pub fn machine_slip<const SLIP: u8>() -> Rules {
-    Rules { machine: machine::<SLIP>, ..RIGHT }
+    Rules { machine: machine::<SLIP, BY_DEADLINE>, ..RIGHT }
+}
+
+/// A slip in the test for fixed priority.
+pub fn fixed_slip<const SLIP: u8>() -> Rules {
+    Rules { fixed: fixed_with::<SLIP>, ..RIGHT }
+}
+
+/// A slip in its machine.
+pub fn fixed_machine_slip<const SLIP: u8>() -> Rules {
+    Rules { fixed_machine: machine::<SLIP, BY_NUMBER>, ..RIGHT }
 }
 
 /// A slip in the superframe.
@@ -84,8 +100,8 @@ fn delays<const SLIP: u8>(set: &Set) -> Delays {
     PlannerWith::<SLIP>::new(set).map_err(|refusal| format!("{refusal:?}")).unwrap().delays()
 }
 
-fn machine<const SLIP: u8>(set: &Set) -> Box<dyn Steps> {
-    Box::new(MachineWith::<SLIP>::new(set).map_err(|refusal| format!("{refusal:?}")).unwrap())
+fn machine<const SLIP: u8, const ORDER: u8>(set: &Set) -> Box<dyn Steps> {
+    Box::new(MachineWith::<SLIP, ORDER>::new(set).map_err(|refusal| format!("{refusal:?}")).unwrap())
 }
 
 /// Nothing wrong, or what is.
@@ -356,17 +372,28 @@ pub fn bounds(rules: Rules, seed: u64, draws: usize) -> Found {
 
 /// Slots of sets of every kind from any good state, some of them in a row, against the definition.
 pub fn slots(rules: Rules, seed: u64, draws: usize) -> Found {
+    slots_of(rules.machine, definition::slot, sets::any, seed, draws)
+}
+
+/// The same for a machine and the definition of its slot.
+pub fn slots_of(
+    machine: fn(&Set) -> Box<dyn Steps>,
+    slot_of: fn(&Set, &State) -> (State, Slot),
+    draw: fn(&mut Rng) -> Set,
+    seed: u64,
+    draws: usize,
+) -> Found {
     let mut rng = Rng::new(seed);
     for _ in 0..draws {
-        let set = sets::any(&mut rng);
-        let mut machine = (rules.machine)(&set);
+        let set = draw(&mut rng);
+        let mut machine = machine(&set);
         for _ in 0..6 {
             let mut state = records::state(&mut rng, &set);
             for _ in 0..rng.within(1, 8) {
                 if machine.judge(&state).refuses() {
                     break;
                 }
-                let (wanted, does) = definition::slot(&set, &state);
+                let (wanted, does) = slot_of(&set, &state);
                 let mut slot = Slot::default();
                 machine.step(&mut state, &mut slot);
                 claim(slot == does && state == wanted, || format!("{slot:?}, not {does:?}, of {:?}", set.used()))?;
@@ -429,15 +456,35 @@ pub fn demand3_of(
 /// Demand 3 for one set: a run from the fresh state. Answers how many packets were delivered, and whether one of them
 /// took exactly its bound.
 pub fn run(rules: Rules, set: &Set, bounds: &[u32], slots: u32) -> Result<(usize, bool), String> {
-    let (mut machine, mut state, mut slot) = ((rules.machine)(set), State::FRESH, Slot::default());
-    let (mut made, mut packets, mut attained) = ([0u32; 64], 0, false);
+    let ran = run_first((rules.machine)(set), set, &bounds[..set.used().len()], slots)?;
+    Ok((ran.packets, ran.attained))
+}
+
+/// What a run saw.
+pub struct Run {
+    /// Packets delivered of the flows with a bound.
+    pub packets: usize,
+    /// Whether one of them took exactly its bound; and a bit for each flow of which one did so whose bound is above its C:
+    /// others held it up.
+    pub attained: bool,
+    pub held_up: u64,
+    /// Packets dropped of the flows without one.
+    pub dropped: usize,
+}
+
+/// The same for a machine and bounds of the first flows alone: of the others no more is asked than that they send in route
+/// order and are reported so.
+pub fn run_first(mut machine: Box<dyn Steps>, set: &Set, bounds: &[u32], slots: u32) -> Result<Run, String> {
+    let (mut state, mut slot) = (State::FRESH, Slot::default());
+    let (mut made, mut ran) = ([0u32; 64], Run { packets: 0, attained: false, held_up: 0, dropped: 0 });
     for t in 0..slots {
         let because = |why: &str| format!("{why} in slot {t} of map {}, {:?}", set.map, set.used());
         machine.step(&mut state, &mut slot);
         apart(set, &slot).map_err(|why| because(&why))?;
-        claim(slot.dropped.is_empty(), || because("a drop"))?;
+        claim(slot.dropped.iter().all(|&k| usize::from(k) >= bounds.len()), || because("a drop"))?;
+        ran.dropped += slot.dropped.len();
         for (k, flow) in set.used().iter().enumerate() {
-            let Some(release) = release(flow, t) else { continue };
+            let (Some(release), bound) = (release(flow, t), bounds.get(k).copied()) else { continue };
             if t == release {
                 made[k] = 0;
             }
@@ -448,18 +495,21 @@ pub fn run(rules: Rules, set: &Set, bounds: &[u32], slots: u32) -> Result<(usize
                 let wanted = (flow.route[link as usize], flow.route[link as usize + 1], attempt as u8);
                 claim((sent.from, sent.to, sent.attempt) == wanted, || because("not in route order"))?;
                 made[k] += 1;
-                claim(t - release < bounds[k], || because("a send after the bound"))?;
+                claim(bound.is_none_or(|bound| t - release < bound), || because("a send after the bound"))?;
             }
             let done = made[k] == flow.c();
-            claim(done || t + 1 < release + bounds[k], || because(&format!("flow {k} is late")))?;
+            let late = |bound| !done && t + 1 >= release + bound;
+            claim(!bound.is_some_and(late), || because(&format!("flow {k} is late")))?;
             let delivered = slot.delivered.iter().find(|packet| usize::from(packet.flow) == k);
             let delay = (done && !sends.is_empty()).then_some((t - release + 1) as u16);
             claim(delivered.map(|packet| packet.delay) == delay, || because("a wrong report"))?;
-            packets += usize::from(delay.is_some());
-            attained |= delay.map(u32::from) == Some(bounds[k]);
+            ran.packets += usize::from(delay.is_some() && bound.is_some());
+            let attained = delay.is_some() && delay.map(u32::from) == bound;
+            ran.attained |= attained;
+            ran.held_up |= u64::from(attained && bound > Some(flow.c())) << k;
         }
     }
-    Ok((packets, attained))
+    Ok(ran)
 }
 
 /// The release of a flow's latest packet.

@@ -1,4 +1,4 @@
-//! Document 01, rule 8 and S as request 1 of document 02 has them, and requests 2 and 3, in the slowest and most literal
+//! Document 01, rule 8 and S as request 1 of document 02 has them, and requests 2 to 4, in the slowest and most literal
 //! words: signed numbers, nested loops, all lists tried. For tiny sets, single slots and short tables only; it shares
 //! nothing with the library but the records.
 
@@ -183,6 +183,32 @@ impl Equation<'_> {
     }
 }
 
+/// Request 4: the bound of each flow and whether it is judged. n is counted up until its periods reach D of k + bound of l − 1.
+pub fn fixed(set: &Set) -> Vec<(i64, bool)> {
+    let (flows, m) = (set.used(), i64::from(set.map.count_ones()));
+    let (mut answer, mut over): (Vec<(i64, bool)>, bool) = (Vec::new(), false);
+    for k in flows {
+        if over {
+            answer.push((0, false));
+            continue;
+        }
+        let (mut whole, mut conflict) = (0, 0);
+        for (l, &(bound, _)) in flows.iter().zip(&answer) {
+            let (wanted, period) = (i64::from(k.deadline) + bound - 1, i64::from(l.period));
+            let mut n = 0;
+            while n * period < wanted {
+                n += 1;
+            }
+            whole += n * c(l);
+            conflict += n * s(k, l);
+        }
+        let bound = c(k) + conflict + (whole - conflict) / m;
+        over = bound > i64::from(k.deadline);
+        answer.push((bound, true));
+    }
+    answer
+}
+
 /// One flow's latest packet in a slot.
 struct Packet {
     flow: usize,
@@ -208,6 +234,16 @@ fn packets(set: &Set, state: &State) -> Vec<Packet> {
 
 /// A slot of a good set from a good state: the next state, and what the slot does.
 pub fn slot(set: &Set, state: &State) -> (State, Slot) {
+    slot_by(set, state, |packet| (packet.deadline, packet.flow))
+}
+
+/// The same by fixed priority: "differs only in rule 4's order".
+pub fn fixed_slot(set: &Set, state: &State) -> (State, Slot) {
+    slot_by(set, state, |packet| (0, packet.flow))
+}
+
+/// The same with this order of rule 4, lowest first.
+fn slot_by(set: &Set, state: &State, order: fn(&Packet) -> (i64, usize)) -> (State, Slot) {
     let (t, flows, packets) = (i64::from(state.slot), set.used(), packets(set, state));
     let channels: Vec<u8> = (0..16).filter(|bit| set.map & 1 << bit != 0).map(|bit| 11 + bit).collect();
     let (mut next, mut slot) = (*state, Slot::default());
@@ -215,7 +251,7 @@ pub fn slot(set: &Set, state: &State) -> (State, Slot) {
     packets.iter().for_each(|packet| next.sent[packet.flow] = packet.had as u8);
     let is_ready = |packet: &&Packet| t < packet.deadline && packet.had < c(&flows[packet.flow]);
     let mut ready: Vec<&Packet> = packets.iter().filter(is_ready).collect();
-    ready.sort_by_key(|packet| (packet.deadline, packet.flow));
+    ready.sort_by_key(|packet| order(packet));
     for packet in &ready {
         let (flow, tries) = (&flows[packet.flow], i64::from(flows[packet.flow].tries));
         let link = (packet.had / tries) as usize;

@@ -2,7 +2,8 @@
 
 use crate::checks::set_of;
 use crate::definition;
-use second::inputs::{records, sets, superframes, texts, Rng};
+use second::fixed::fixed_of;
+use second::inputs::{ranked, records, sets, superframes, texts, Rng};
 use second::{check, read, step, superframe_size, Flow, Planner, Refusal, Set, REFUSALS};
 
 #[test]
@@ -86,6 +87,46 @@ fn superframes_are_good_and_refused_for_every_reason() {
     assert!(seen[0] > 1_500 && seen[14] > 1_000 && seen[15] > 200 && seen[16] > 50, "{seen:?}");
     assert!(long[0] > 2_000 && long[16] > 500, "{long:?}");
     assert!(tightened > 150 && returning > 1_000, "{tightened} {returning}");
+}
+
+/// Sets for fixed priority are good, admitted and not; and the first flow over its deadline is any but the first.
+#[test]
+fn ranked_sets_lie_on_either_side_of_the_line() {
+    let mut rng = Rng::new(89);
+    // a chain's routes never return
+    let kinds: [(fn(&mut Rng) -> Set, usize); 4] =
+        [(ranked::tight, 900), (ranked::chain, 0), (ranked::edge, 900), (ranked::any, 800)];
+    for (draw, returns) in kinds {
+        let (mut admitted, mut at_the_line, mut returning) = (0, [0; 2], 0);
+        for _ in 0..2_000 {
+            let set = draw(&mut rng);
+            assert_eq!(check(&set), Refusal::NONE);
+            let fixed = fixed_of(&set);
+            admitted += usize::from(fixed.verdict().admitted);
+            returning += usize::from(sets::returns(&set));
+            let last = fixed.judged.saturating_sub(1);
+            at_the_line[0] += usize::from(fixed.bound[last] == fixed.deadline[last]);
+            at_the_line[1] += usize::from(fixed.bound[last] == fixed.deadline[last] + 1);
+        }
+        assert!((300..1_700).contains(&admitted), "{admitted}");
+        assert!(at_the_line.iter().all(|&times| times > 90), "{at_the_line:?}");
+        assert!(returning >= returns, "{returning}");
+    }
+}
+
+/// Of a chain's flows all but the last have node 20, the last two have node 30, and no other node is shared.
+#[test]
+fn chains_meet_only_where_they_should() {
+    let mut rng = Rng::new(90);
+    for _ in 0..2_000 {
+        let set = ranked::chain(&mut rng);
+        let flows = set.used();
+        let (last, before) = flows.split_last().unwrap();
+        let touch = |one: &Flow, other: &Flow| one.used().iter().any(|node| other.used().contains(node));
+        let (l, hs) = before.split_last().unwrap();
+        assert!(touch(l, last) && !hs.is_empty());
+        assert!(hs.iter().all(|h| touch(h, l) && !touch(h, last)));
+    }
 }
 
 /// The numbers of the line that a damaged text is refused for.

@@ -1,9 +1,11 @@
 //! The tests of the tests: each wrong rule is put in, and the very checks that the right rules pass must fail.
 
-use crate::checks::{self, machine_slip, planner_slip, reader_slip, record_slip, set_of, superframe_slip, Rules};
-use crate::checks::{L2_TEXT, RIGHT};
+use crate::by_number;
+use crate::checks::{self, fixed_machine_slip, fixed_slip, machine_slip, planner_slip, reader_slip, record_slip};
+use crate::checks::{set_of, superframe_slip, Rules, L2_TEXT, RIGHT};
 use crate::loading;
-use second::slip;
+use second::inputs::ranked;
+use second::{slip, Set};
 
 /// Which checks catch a slip: the paper's sets, the refusals by the definition, the greatest list by search, the bounds
 /// and the slots by the definition, and demand 3 by simulation, which must catch it whatever the seed.
@@ -54,6 +56,34 @@ fn caught_fields(rules: Rules) -> [bool; 4] {
     [checks::named_texts(rules), checks::long_lines(rules), drawn.0, drawn.1].map(|found| found.is_err())
 }
 
+/// Which checks of request 4 catch a slip: its sets, the bounds and the slots by the definition, and demand 3 by simulation
+/// of tight sets and of chains, each of which must catch it whatever the seed.
+#[derive(Debug, PartialEq)]
+struct CaughtByNumber {
+    paper: bool,
+    bounds: bool,
+    slots: bool,
+    demand3: bool,
+    chains: bool,
+}
+
+fn caught_by_number(rules: Rules) -> CaughtByNumber {
+    let seeds = [32, 33, 34];
+    CaughtByNumber {
+        paper: by_number::paper(rules).is_err(),
+        bounds: by_number::bounds(rules, 30, 1_000).is_err(),
+        slots: by_number::slots(rules, 31, 1_000).is_err(),
+        demand3: seeds.iter().all(|&seed| by_number::demand3(rules, seed, 2_000).is_err()),
+        chains: seeds.iter().all(|&seed| by_number::chains(rules, seed, 2_000).is_err()),
+    }
+}
+
+/// A slip in the test for fixed priority: the request's sets and the definition catch it, and these of the simulations.
+fn hold_fixed(rules: Rules, demand3: bool, chains: bool) {
+    let wanted = CaughtByNumber { paper: true, bounds: true, slots: false, demand3, chains };
+    assert_eq!(caught_by_number(rules), wanted);
+}
+
 #[test]
 fn the_right_rules_pass_every_check() {
     let none = caught(RIGHT);
@@ -61,6 +91,79 @@ fn the_right_rules_pass_every_check() {
     let none = caught_loading(RIGHT);
     assert!(!(none.paper || none.hypers || none.tables || none.repeats));
     assert_eq!(caught_fields(RIGHT), [false; 4]);
+    let none = caught_by_number(RIGHT);
+    assert!(!(none.paper || none.bounds || none.slots || none.demand3 || none.chains));
+}
+
+#[test]
+fn packets_rounded_down_are_caught() {
+    let rules = fixed_slip::<{ slip::ROUND_DOWN }>();
+    hold_fixed(rules, true, true);
+    // X5: flow 1's bound would be 1, and its packet of slot 7 takes 2.
+    assert_eq!((rules.fixed)(&named("X5")).bound[..2], [1, 1]);
+}
+
+#[test]
+fn packets_without_the_bound_of_l_are_caught() {
+    let rules = fixed_slip::<{ slip::NO_BOUND }>();
+    hold_fixed(rules, true, true);
+    // X4: flow 2's bound would be 3, within its deadline, and slot 5 drops its packet.
+    let fixed = (rules.fixed)(&named("X4"));
+    assert_eq!((fixed.bound[2], fixed.verdict().admitted), (3, true));
+}
+
+/// As in the usual analysis for one processor, where nothing is held up that does not hold up all others: tight sets hardly
+/// ever show it, chains always do.
+#[test]
+fn packets_that_are_never_held_up_are_caught_by_chains() {
+    let rules = fixed_slip::<{ slip::BOUND_OF_ONE }>();
+    hold_fixed(rules, false, true);
+    assert_eq!((rules.fixed)(&named("X4")).bound[2], 3);
+}
+
+/// One packet too many is only looser, so no run shows it: X2's bound does.
+#[test]
+fn packets_without_less_one_are_caught_by_their_bounds() {
+    let rules = fixed_slip::<{ slip::NO_LESS_ONE }>();
+    hold_fixed(rules, false, false);
+    assert_eq!((rules.fixed)(&named("X2")).bound[..2], [1, 4]);
+}
+
+#[test]
+fn judging_after_the_first_over_its_deadline_is_caught() {
+    hold_fixed(fixed_slip::<{ slip::JUDGE_ON }>(), false, false);
+}
+
+#[test]
+fn a_bound_of_0_for_the_flow_over_its_deadline_is_caught() {
+    hold_fixed(fixed_slip::<{ slip::OVER_IS_ZERO }>(), true, true);
+}
+
+#[test]
+fn counting_a_flows_own_packets_is_caught() {
+    hold_fixed(fixed_slip::<{ slip::OWN_PACKETS }>(), false, false);
+}
+
+#[test]
+fn dividing_the_conflict_share_is_caught() {
+    hold_fixed(fixed_slip::<{ slip::SHARE_CONFLICTS }>(), true, true);
+}
+
+#[test]
+fn the_higher_number_first_is_caught() {
+    let by = caught_by_number(fixed_machine_slip::<{ slip::HIGHER_FIRST }>());
+    assert!(by.paper && by.slots && by.demand3 && by.chains);
+}
+
+#[test]
+fn the_earlier_deadline_first_is_caught() {
+    let by = caught_by_number(Rules { fixed_machine: RIGHT.machine, ..RIGHT });
+    assert!(by.paper && by.slots && by.demand3 && by.chains);
+}
+
+/// One of request 4's sets.
+fn named(name: &str) -> Set {
+    set_of(&ranked::named().iter().find(|row| row.name.starts_with(name)).unwrap().text)
 }
 
 #[test]

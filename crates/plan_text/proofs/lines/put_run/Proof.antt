@@ -4,7 +4,7 @@ use mathlib.Core.Path.{_≡_, refl, ap, _∙_}
 use Prim.Native.Nat.{_-_, _<_}
 use native.Mathlib.Omega.{arith}
 use Rattle.model.specs.Sets.{used}
-use Rattle.document.specs.Machine.{Priority, orderOf, stepWith, runWith}
+use Rattle.document.specs.Machine.{orderOf, stepWith, runWith}
 use Rattle.document.specs.Program.{runLinesWith}
 use Rattle.text.specs.Put.{Putting, putting-start, putting-more, putting-done}
 use Rattle.plan_text.specs.RunSlotBySlot.{run-more, run-last}
@@ -14,8 +14,7 @@ use Rattle.plan_text.proofs.lines.put_run.Tie as tie
 
 abbrev Inv-loop : tie.InvT-loop
 Inv-loop by out₀ at s st₀ place₀ t₀ out st place t =
-    let first = orderOf by in
-    (st ≡ runWith first (used s) t .last) × Putting out₀ at (runLinesWith first (used s)) 12 out place t
+    (st ≡ runWith (orderOf by) (used s) t .last) × Putting out₀ at (runLinesWith (orderOf by) (used s)) 12 out place t
 
 abbrev μ-loop : tie.MeasureT-loop
 μ-loop by out₀ at s st₀ place₀ t₀ out st place t = 12 - t
@@ -33,9 +32,9 @@ loop-again c =
     let test = stepped .before in
     let o = test .before .before .before .before in
     let s = o .args .s in
+    let first = orderOf (o .args .by) in
     let l = test .before .loop in
     let a = stepped .step-accepted in
-    let first : Priority = orderOf (o .args .by) in
     let e : a .result ≡ stepWith first (used s) (runWith first (used s) (l .t) .last) = a .ensures ∙ ap (stepWith first (used s)) (l .inv .0) in
     let m : s .map .0 < 65536 = o .good .1 .1 .1 .0 .1 .1 .0 .1 .1 .0 .1 in
     let f = run-more first s (l .t) (a .result) (o .pre) m (omega arith) e in

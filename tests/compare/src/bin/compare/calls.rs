@@ -1,8 +1,9 @@
-//! What a user holds: the three functions that C calls and the plan, over good and damaged texts, short and exact buffers, good and bad
+//! What a user holds: the functions that C calls and the programs, over good and damaged texts, short and exact buffers, good and bad
 //! states. On a refusal neither buffer changes; otherwise the bytes after what was written stay.
 
+use crate::order::{Order, DEADLINE, NUMBER};
 use crate::{hold_bounds, hold_verdict, Tally};
-use second::host::{bound_of_text, bytes_of_state, step_of_text, verdict_of_text};
+use second::host::{bound_of_text, bytes_of_state, verdict_of_text};
 use second::inputs::{records, sets, Rng};
 use second::plan::MOST_BYTES;
 use second::write::text_of;
@@ -27,7 +28,7 @@ impl Text<'_> {
     }
 }
 
-/// Every call over one text.
+/// Every call of document 01 over one text.
 pub fn over_text(tally: &mut Tally, rng: &mut Rng, bytes: &[u8]) {
     let text = Text::new(bytes);
     let other = verdict_of_text(bytes);
@@ -40,9 +41,15 @@ pub fn over_text(tally: &mut Tally, rng: &mut Rng, bytes: &[u8]) {
         hold_bounds(tally, &text.set, compare::text_bounds(bytes, flow), other);
     }
     all_bounds(tally, rng, &text);
+    slot_and_program(tally, &DEADLINE, rng, bytes);
+}
+
+/// A slot from any state, and what the program prints, by one of the orders.
+pub fn slot_and_program(tally: &mut Tally, order: &Order, rng: &mut Rng, bytes: &[u8]) {
+    let text = Text::new(bytes);
     let state = records::state_bytes(rng, &text.set);
-    one_slot(tally, rng, &text, &state);
-    plan(tally, rng, &text);
+    one_slot(tally, order, rng, &text, &state);
+    program(tally, order, rng, &text);
 }
 
 /// The table of all bounds: exact, one number short, longer, or none.
@@ -60,25 +67,30 @@ fn all_bounds(tally: &mut Tally, rng: &mut Rng, text: &Text) {
 pub fn walk(tally: &mut Tally, rng: &mut Rng) {
     let set = sets::any(rng);
     tally.saw(&set, Refusal::NONE);
-    walk_over(tally, rng, &text_of(&set), 20);
+    walk_over(tally, &DEADLINE, rng, &text_of(&set), 20);
 }
 
-/// Slots of this text, this many; one that finds no room for its lines is tried again.
-pub fn walk_over(tally: &mut Tally, rng: &mut Rng, bytes: &[u8], slots: u32) {
+/// Slots of this text by one of the orders, this many; one that finds no room for its lines is tried again.
+pub fn walk_over(tally: &mut Tally, order: &Order, rng: &mut Rng, bytes: &[u8], slots: u32) {
     let text = Text::new(bytes);
     let mut state = bytes_of_state(&State::FRESH).to_vec();
     for _ in 0..slots {
-        state = one_slot(tally, rng, &text, &state);
+        state = one_slot(tally, order, rng, &text, &state);
     }
 }
 
-/// Every refusal of a state, and the longest input that is read with one byte more.
+/// Every refusal of a state, and the longest input that is read with one byte more, by both orders.
 pub fn named(tally: &mut Tally) {
+    named_by(tally, &DEADLINE);
+    named_by(tally, &NUMBER);
+}
+
+fn named_by(tally: &mut Tally, order: &Order) {
     let mut rng = Rng::new(tally.seed);
     for length in [MOST_BYTES, MOST_BYTES + 1] {
         // the room is drawn: once might be once too short to show the difference
         for _ in 0..16 {
-            plan(tally, &mut rng, &Text::new(&vec![b'x'; length]));
+            program(tally, order, &mut rng, &Text::new(&vec![b'x'; length]));
         }
     }
     let text = Text::new(b"set\t1\nflow\t10\t10\t0\t2\t1\t2\n");
@@ -88,7 +100,7 @@ pub fn named(tally: &mut Tally) {
             let mut bytes = state.to_vec();
             bytes.resize(length, 0);
             for _ in 0..4 {
-                one_slot(tally, &mut rng, &text, &bytes);
+                one_slot(tally, order, &mut rng, &text, &bytes);
             }
         }
     }
@@ -104,16 +116,16 @@ fn room(rng: &mut Rng, length: usize) -> usize {
 }
 
 /// One slot from a state's bytes, and those that it left.
-fn one_slot(tally: &mut Tally, rng: &mut Rng, text: &Text, state: &[u8]) -> Vec<u8> {
-    let length = step_of_text(text.bytes, &mut state.to_vec(), &mut [0; 2000]).bytes;
+fn one_slot(tally: &mut Tally, order: &Order, rng: &mut Rng, text: &Text, state: &[u8]) -> Vec<u8> {
+    let length = (order.second_slot)(text.bytes, &mut state.to_vec(), &mut [0; 2000]).bytes;
     let before = vec![BEFORE; room(rng, length)];
     let (mut our_state, mut our_lines) = (state.to_vec(), before.clone());
     let (mut their_state, mut their_lines) = (state.to_vec(), before.clone());
-    let a = compare::text_slot(text.bytes, &mut our_state, &mut our_lines);
-    let b = step_of_text(text.bytes, &mut their_state, &mut their_lines);
-    count(tally, b.refusal);
+    let a = (order.slot)(text.bytes, &mut our_state, &mut our_lines);
+    let b = (order.second_slot)(text.bytes, &mut their_state, &mut their_lines);
+    (order.count)(tally, b.refusal);
     tally.slots += 1;
-    let told = || format!("{a:?}, {b:?}, state {state:?}, room {}, {}", before.len(), text.told());
+    let told = || format!("{}, {a:?}, {b:?}, state {state:?}, room {}, {}", order.name, before.len(), text.told());
     tally.fault("a slot's refusal", &text.set, a.fault, b.refusal);
     let same = a.length == b.bytes && our_state == their_state && our_lines == their_lines;
     tally.hold("what a slot left", &text.set, same, told);
@@ -125,18 +137,18 @@ fn one_slot(tally: &mut Tally, rng: &mut Rng, text: &Text, state: &[u8]) -> Vec<
     our_state
 }
 
-/// The plan's text in a buffer of any length; 10 for one that is too short, which stays as it was.
-fn plan(tally: &mut Tally, rng: &mut Rng, text: &Text) {
-    let planned = second::plan(text.bytes);
+/// The program's text in a buffer of any length; 10 for one that is too short, which stays as it was.
+fn program(tally: &mut Tally, order: &Order, rng: &mut Rng, text: &Text) {
+    let planned = (order.second_program)(text.bytes);
     let before = vec![BEFORE; room(rng, planned.len())];
     let mut out = before.clone();
-    let a = compare::plan(text.bytes, &mut out);
+    let a = (order.program)(text.bytes, &mut out);
     let fits = planned.len() <= before.len();
     let refusal = if fits { Refusal::NONE } else { Refusal::at(10, 0) };
-    count(tally, refusal);
-    let told = || format!("{a:?}, room {}, {}", before.len(), text.told());
-    tally.fault("the plan's refusal", &text.set, a.fault, refusal);
+    (order.count)(tally, refusal);
+    let told = || format!("{}, {a:?}, room {}, {}", order.name, before.len(), text.told());
+    tally.fault("the program's refusal", &text.set, a.fault, refusal);
     let length = if fits { planned.len() } else { 0 };
     let same = a.length == length && out[..length] == planned[..length] && out[length..] == before[length..];
-    tally.hold("the plan", &text.set, same, told);
+    tally.hold("the program's text", &text.set, same, told);
 }

@@ -5,11 +5,14 @@
 mod calls;
 mod loading;
 mod named;
+mod order;
+mod ranking;
 
 use compare::{Bounds, Fault, Record, Verdict};
+use order::{Order, DEADLINE};
 use second::inputs::{records, sets, texts, Rng};
 use second::write::text_of;
-use second::{Machine, Planner, Refusal, Set, Slot, State, LAST_MADE, REFUSALS};
+use second::{Planner, Refusal, Set, Slot, State, LAST_MADE, REFUSALS};
 use std::time::{Duration, Instant};
 
 /// How many seeds are compared side by side, for the machine's two processors.
@@ -23,6 +26,10 @@ struct Tally {
     called: [u64; REFUSALS],
     /// How often lines of a table were refused with each.
     lines: [u64; REFUSALS],
+    /// The same of calls by fixed priority; and sets that were run by it, admitted ones among them.
+    ranked: [u64; REFUSALS],
+    ranked_sets: u64,
+    ranked_admitted: u64,
     /// Tables that were repeated beside the slots.
     repeated: u64,
     inputs: u64,
@@ -38,7 +45,11 @@ impl Tally {
     fn new(seed: u64) -> Tally {
         let seen = [0; REFUSALS];
         let (seeds, inputs, slots, packets, admitted, repeated, sets, returning) = Default::default();
-        Tally { seed, seeds, refusals: seen, called: seen, lines: seen, repeated, inputs, slots, packets, admitted, sets, returning }
+        let (lines, ranked, ranked_sets, ranked_admitted) = (seen, seen, 0, 0);
+        let (refusals, called) = (seen, seen);
+        Tally {
+            seed, seeds, refusals, called, lines, ranked, ranked_sets, ranked_admitted, repeated, inputs, slots, packets, admitted, sets, returning,
+        }
     }
 
     /// What another worker compared counts too.
@@ -47,7 +58,10 @@ impl Tally {
             self.refusals[n] += other.refusals[n];
             self.called[n] += other.called[n];
             self.lines[n] += other.lines[n];
+            self.ranked[n] += other.ranked[n];
         }
+        self.ranked_sets += other.ranked_sets;
+        self.ranked_admitted += other.ranked_admitted;
         self.seeds += other.seeds;
         self.repeated += other.repeated;
         self.inputs += other.inputs;
@@ -100,6 +114,7 @@ fn main() {
     named::behind_the_end(&mut tally);
     calls::named(&mut tally);
     loading::named(&mut tally);
+    ranking::named(&mut tally);
     let workers: Vec<_> = (0..WORKERS).map(|w| std::thread::spawn(move || seeds(first + w, end))).collect();
     for worker in workers {
         tally.add(&worker.join().expect("a worker ends"));
@@ -110,7 +125,10 @@ fn main() {
     println!("refusals seen: {}", counts(&tally.refusals));
     println!("refusals seen of what C calls and of plan: {}", counts(&tally.called));
     println!("{} tables repeated beside the slots; refusals seen of a table's lines: {}", tally.repeated, counts(&tally.lines));
-    if [tally.refusals, tally.called].iter().any(|seen| seen[..=LAST_MADE].contains(&0)) || !loading::every_line(&tally.lines) {
+    println!("{} sets run by fixed priority, {} of them admitted; refusals seen of its calls: {}", tally.ranked_sets, tally.ranked_admitted,
+        counts(&tally.ranked));
+    let everywhere = [tally.refusals, tally.called].iter().all(|seen| !seen[..=LAST_MADE].contains(&0));
+    if !everywhere || !loading::every_line(&tally.lines) || !ranking::every_refusal(&tally.ranked) {
         println!("a refusal number was never seen");
         std::process::exit(1);
     }
@@ -132,10 +150,12 @@ fn seeds(first: u64, end: Instant) -> Tally {
             over_record(&mut tally, &mut rng);
             let text = if rng.once_in(2) { texts::good(&mut rng) } else { texts::any(&mut rng) };
             calls::over_text(&mut tally, &mut rng, &text);
+            ranking::over_text(&mut tally, &mut rng, &text);
         }
         long_run(&mut tally, &mut rng);
         calls::walk(&mut tally, &mut rng);
         loading::over_seed(&mut tally, &mut rng);
+        ranking::over_seed(&mut tally, &mut rng);
         tally.seed += WORKERS;
         tally.seeds += 1;
     }
@@ -175,7 +195,8 @@ fn over_record(tally: &mut Tally, rng: &mut Rng) {
     write_record(tally, rng, &set, &record);
     delays(tally, rng, &set, &record);
     let st = records::state(rng, &set);
-    one_step(tally, &set, &record, &st);
+    one_step(tally, &DEADLINE, &set, &record, &st);
+    ranking::over_record(tally, rng, &set);
 }
 
 fn write_record(tally: &mut Tally, rng: &mut Rng, set: &Set, record: &Record) {
@@ -205,52 +226,62 @@ fn hold_bounds(tally: &mut Tally, set: &Set, a: Bounds, b: second::Bound) {
     tally.hold("a bound", set, same, || format!("{a:?}, {b:?}"));
 }
 
-/// One step from a state, refused or not.
-fn one_step(tally: &mut Tally, set: &Set, record: &Record, st: &State) {
-    let (a, b) = (record.step(st), second::step(set, st));
+/// One step from a state by one of the orders, refused or not.
+fn one_step(tally: &mut Tally, order: &Order, set: &Set, record: &Record, st: &State) {
+    let (a, b) = ((order.step)(record, st), (order.second_step)(set, st));
+    let told = || format!("{}, {st:?}: {a:?}, {b:?}", order.name);
     tally.slots += 1;
     tally.fault("a step's refusal", set, a.fault, b.refusal);
     let sends = a.sends.iter().map(|x| (x.slot, x.flow, x.from, x.to, x.attempt, x.offset, x.channel));
     let others = b.slot.sends.iter().map(|x| {
         (st.slot, x.flow.into(), x.from, x.to, x.attempt.into(), x.offset.into(), x.channel.into())
     });
-    tally.hold("a slot's sends", set, sends.eq(others), || format!("{st:?}: {a:?}, {b:?}"));
+    tally.hold("a slot's sends", set, sends.eq(others), told);
     let delivered = a.delivered.iter().map(|x| (x.flow, x.delay)).eq(b.slot.delivered.iter().map(|x| (x.flow.into(), x.delay)));
     let dropped = a.dropped.iter().copied().eq(b.slot.dropped.iter().map(|x| u16::from(*x)));
-    tally.hold("a slot's reports", set, delivered && dropped && a.blank, || format!("{st:?}: {a:?}, {b:?}"));
-    tally.hold("the next state", set, a.next == b.state, || format!("{st:?}: {a:?}, {b:?}"));
+    tally.hold("a slot's reports", set, delivered && dropped && a.blank, told);
+    tally.hold("the next state", set, a.next == b.state, told);
 }
 
 /// Thousands of slots of one set from the fresh state, with demand 3 checked where a test admits it.
 fn long_run(tally: &mut Tally, rng: &mut Rng) {
     let set = if rng.once_in(2) { sets::tight(rng) } else { sets::any(rng) };
-    let record = Record::new(&set);
-    let (Ok(mut machine), Ok(planner)) = (Machine::new(&set), Planner::new(&set)) else { return };
+    let Ok(planner) = Planner::new(&set) else { return };
     tally.saw(&set, Refusal::NONE);
     let delays = planner.delays();
     let budget = 500 + rng.below(2500) as u32;
-    let (mut st, mut slot, mut delivered, mut dropped) = (State::FRESH, Slot::new(), 0u64, 0u64);
     let verdict = delays.verdict();
+    let tests = [(verdict.basic, &delays.basic), (verdict.tightened, &delays.tightened)];
+    let promised: Vec<&[u32]> = tests.iter().filter(|test| test.0).map(|test| &test.1[..delays.count]).collect();
+    let packets = run_beside(tally, &DEADLINE, &set, budget, &promised);
+    if !promised.is_empty() {
+        tally.admitted += 1;
+        tally.packets += packets;
+    }
+}
+
+/// Slots of a set from the fresh state by one of the orders, some of them compared, and the run of as many. Each list of bounds is promised
+/// to the first flows: none of their packets is later, and none is dropped. Answers how many packets were delivered.
+fn run_beside(tally: &mut Tally, order: &Order, set: &Set, budget: u32, promised: &[&[u32]]) -> u64 {
+    let record = Record::new(set);
+    let Some(mut step) = (order.second_machine)(set) else { return 0 };
+    let (mut st, mut slot, mut delivered, mut dropped) = (State::FRESH, Slot::new(), 0, 0);
     for _ in 0..budget {
         if tally.slots % 7 == 0 {
-            one_step(tally, &set, &record, &st);
+            one_step(tally, order, set, &record, &st);
         }
-        machine.step(&mut st, &mut slot);
+        step(&mut st, &mut slot);
         tally.slots += 1;
         delivered += slot.delivered.len() as u64;
         dropped += slot.dropped.len() as u64;
-        for d in &slot.delivered {
-            let k = usize::from(d.flow);
-            let late = (verdict.basic && u32::from(d.delay) > delays.basic[k]) || (verdict.tightened && u32::from(d.delay) > delays.tightened[k]);
-            tally.hold("demand 3: a delay above its bound", &set, !late, || format!("{d:?}"));
+        for bounds in promised {
+            let late = slot.delivered.iter().any(|d| bounds.get(usize::from(d.flow)).is_some_and(|&bound| u32::from(d.delay) > bound));
+            let lost = slot.dropped.iter().any(|&flow| usize::from(flow) < bounds.len());
+            tally.hold("demand 3: a packet late or lost", set, !late && !lost, || format!("{}, {slot:?}", order.name));
         }
     }
-    let ran = record.run(budget);
+    let ran = (order.run)(&record, budget);
     let same = ran.last == st && ran.delivered == delivered && ran.dropped == dropped;
-    tally.hold("a run", &set, same, || format!("{budget} slots: {ran:?}, {st:?}, {delivered}, {dropped}"));
-    if verdict.basic || verdict.tightened {
-        tally.admitted += 1;
-        tally.packets += ran.delivered;
-        tally.hold("demand 3: a dropped packet", &set, ran.dropped == 0, || format!("{ran:?}"));
-    }
+    tally.hold("a run", set, same, || format!("{}, {budget} slots: {ran:?}, {st:?}, {delivered}, {dropped}", order.name));
+    delivered
 }

@@ -1,13 +1,14 @@
 //! Cases with a name: document 01's "run only" list, sets whose answers were found by hand, and each refusal by itself. The proved planner's
 //! answers are held against the expected ones, and then every function against the second planner's.
 
-use crate::{calls, hold_bounds, hold_verdict, loading, one_step, read_and_write, Tally};
+use crate::order::{Order, DEADLINE, NUMBER};
+use crate::{calls, hold_bounds, hold_verdict, loading, one_step, ranking, read_and_write, Tally};
 use compare::{Fault, Record};
 use second::host::{bytes_of_state, step_of_text, verdict_of_text};
 use second::inputs::named::{self, Named};
 use second::inputs::{ring64, sets, texts, Rng};
 use second::write::text_of;
-use second::{Machine, Refusal, Set, Slot, State};
+use second::{Refusal, Set, Slot, State};
 
 /// How many slots of a named set are compared one by one.
 const SLOTS: u32 = 60;
@@ -17,24 +18,27 @@ pub fn found_by_hand(tally: &mut Tally) {
     for named in named::sets() {
         let set = compare::read(named.text.as_bytes()).1;
         expected(tally, &named, &set);
-        read_and_write(tally, named.text.as_bytes());
-        through_c(tally, named.text.as_bytes(), &set);
-        through_records(tally, &set);
+        through_both(tally, named.text.as_bytes(), &set);
     }
+}
+
+/// A set that is good: its text read and written, and every function of both orders over the text and over the record.
+pub fn through_both(tally: &mut Tally, text: &[u8], set: &Set) {
+    read_and_write(tally, text);
+    through_c(tally, text, set);
+    through_records(tally, set);
 }
 
 /// The sets that are measured: as many flows, nodes, rounds and bytes as there can be; and 16 and 17 flows, on either side of where the second
 /// planner goes over to sums of all 64 places.
 pub fn at_the_limits(tally: &mut Tally) {
     let few = |count| Set { count, ..sets::full(&mut Rng::new(1)) };
-    for set in [few(16), few(17), few(64), sets::alike(9), sets::alike(64), sets::busy(), sets::longest(), sets::loops()] {
-        let text = text_of(&set);
-        read_and_write(tally, &text);
-        through_c(tally, &text, &set);
-        through_records(tally, &set);
+    for set in [few(16), few(17), few(64), sets::roomy(64), sets::alike(9), sets::alike(64), sets::busy(), sets::longest(), sets::loops()] {
+        through_both(tally, &text_of(&set), &set);
     }
     // of the ring not every flow's bounds: each takes thousands of rounds
     calls::over_text(tally, &mut Rng::new(tally.seed), &text_of(&ring64()));
+    ranking::every_bound(tally, &text_of(&ring64()), &ring64());
 }
 
 /// What the proved planner answers is what was found by hand.
@@ -67,8 +71,12 @@ fn through_c(tally: &mut Tally, bytes: &[u8], set: &Set) {
     for flow in 0..=u32::from(set.count) {
         hold_bounds(tally, set, compare::text_bounds(bytes, flow), second::host::bound_of_text(bytes, flow));
     }
-    calls::walk_over(tally, &mut rng, bytes, SLOTS);
+    ranking::every_bound(tally, bytes, set);
+    for order in [&DEADLINE, &NUMBER] {
+        calls::walk_over(tally, order, &mut rng, bytes, SLOTS);
+    }
     calls::over_text(tally, &mut rng, bytes);
+    ranking::over_text(tally, &mut rng, bytes);
 }
 
 /// Every function over the record: from the fresh state, and from a state at which every flow has started.
@@ -79,20 +87,27 @@ fn through_records(tally: &mut Tally, set: &Set) {
     for flow in 0..=set.count {
         hold_bounds(tally, set, record.bounds(flow), second::bound(set, flow.into()));
     }
-    let Ok(mut machine) = Machine::new(set) else { return };
+    for order in [&DEADLINE, &NUMBER] {
+        through_slots(tally, order, set, &record);
+    }
+}
+
+/// Slots of one of the orders up to where every flow has started, those at both ends compared, and the run of as many.
+fn through_slots(tally: &mut Tally, order: &Order, set: &Set, record: &Record) {
+    let Some(mut step) = (order.second_machine)(set) else { return };
     let (mut st, mut slot) = (State::FRESH, Slot::new());
     let (mut delivered, mut dropped) = (0, 0);
     for t in 0..66_000 {
         if t < SLOTS || t > 66_000 - SLOTS || t.abs_diff(65_535) < 10 {
-            one_step(tally, set, &record, &st);
+            one_step(tally, order, set, record, &st);
         }
-        machine.step(&mut st, &mut slot);
+        step(&mut st, &mut slot);
         delivered += slot.delivered.len() as u64;
         dropped += slot.dropped.len() as u64;
     }
-    let ran = record.run(66_000);
+    let ran = (order.run)(record, 66_000);
     let same = ran.last == st && ran.delivered == delivered && ran.dropped == dropped;
-    tally.hold("a run", set, same, || format!("{ran:?}, {st:?}, {delivered}, {dropped}"));
+    tally.hold("a run", set, same, || format!("{}: {ran:?}, {st:?}, {delivered}, {dropped}", order.name));
 }
 
 /// Records of which only the nodes of the route count: their last node stands once more behind the route's end.
@@ -125,7 +140,9 @@ pub fn refused(tally: &mut Tally) {
     let text = b"set\t3\nflow\t10\t8\t0\t1\t1\t2\t3\nflow\t20\t20\t0\t1\t4\t2\t5\n";
     let record = Record::new(&compare::read(text).1);
     for flow in [2, 63, 64, 65_536, u32::MAX] {
-        hold_fault(tally, "no flow of that number", compare::text_bounds(text, flow).fault, Refusal::at(13, 0));
+        for fault in [compare::text_bounds(text, flow).fault, compare::text_fixed_bounds(text, flow).fault] {
+            hold_fault(tally, "no flow of that number", fault, Refusal::at(13, 0));
+        }
     }
     let bad = |slot, count: u8, beyond: u8| {
         let mut st = State { slot, ..State::FRESH };
@@ -139,17 +156,19 @@ pub fn refused(tally: &mut Tally) {
         ("a count beyond the last flow", bad(0, 0, 1), 12),
         ("the last slot", bad(4_000_000_000, 2, 0), 11),
     ];
-    for (name, st, number) in states {
-        let lines = &mut [0; 100];
-        hold_fault(tally, name, compare::text_slot(text, &mut bytes_of_state(&st), lines).fault, Refusal::at(number, 0));
-        hold_fault(tally, name, record.step(&st).fault, Refusal::at(number, 0));
-    }
     let length = step_of_text(text, &mut bytes_of_state(&State::FRESH), &mut [0; 100]).bytes;
-    for (room, number) in [(0, 10), (length - 1, 10), (length, 0)] {
-        let (mut state, mut lines) = (bytes_of_state(&State::FRESH), vec![0; room]);
-        hold_fault(tally, "room for a slot's lines", compare::text_slot(text, &mut state, &mut lines).fault, Refusal::at(number, 0));
+    for order in [&DEADLINE, &NUMBER] {
+        for &(name, st, number) in &states {
+            let lines = &mut [0; 100];
+            hold_fault(tally, name, (order.slot)(text, &mut bytes_of_state(&st), lines).fault, Refusal::at(number, 0));
+            hold_fault(tally, name, (order.step)(&record, &st).fault, Refusal::at(number, 0));
+        }
+        for (room, number) in [(0, 10), (length - 1, 10), (length, 0)] {
+            let (mut state, mut lines) = (bytes_of_state(&State::FRESH), vec![0; room]);
+            hold_fault(tally, "room for a slot's lines", (order.slot)(text, &mut state, &mut lines).fault, Refusal::at(number, 0));
+        }
+        hold_fault(tally, "67 bytes of state", (order.slot)(text, &mut [0; 67], &mut [0; 100]).fault, Refusal::at(12, 0));
     }
-    hold_fault(tally, "67 bytes of state", compare::text_slot(text, &mut [0; 67], &mut [0; 100]).fault, Refusal::at(12, 0));
 }
 
 fn hold_fault(tally: &mut Tally, name: &str, fault: Fault, refusal: Refusal) {
@@ -166,6 +185,9 @@ fn refused_text(tally: &mut Tally, rng: &mut Rng, name: &str, text: &[u8], refus
         compare::text_slot(text, &mut [], &mut []).fault,
         compare::text_superframe_size(text).fault,
         compare::text_superframe(text, &mut []).fault,
+        compare::text_fixed_verdict(text).fault,
+        compare::text_fixed_bounds(text, 0).fault,
+        compare::text_fixed_slot(text, &mut [], &mut []).fault,
     ];
     for fault in faults {
         hold_fault(tally, name, fault, refusal);
@@ -173,6 +195,7 @@ fn refused_text(tally: &mut Tally, rng: &mut Rng, name: &str, text: &[u8], refus
     read_and_write(tally, text);
     calls::over_text(tally, rng, text);
     loading::over_text(tally, rng, text);
+    ranking::over_text(tally, rng, text);
 }
 
 /// Request 3: its texts, every pair of faults in a line, and lines of 8,000 and of 100,000 fields.
@@ -231,6 +254,8 @@ pub fn run_only(tally: &mut Tally) {
     tally.hold("a buffer one byte short", &set, record.write(&mut short).fault.refusal == 10, String::new);
     tally.hold("a buffer one byte short stays", &set, short.iter().all(|b| *b == 1), String::new);
     for slot in [3_999_999_999, 4_000_000_000, 4_000_000_001] {
-        one_step(tally, &set, &record, &State { slot, ..State::FRESH });
+        for order in [&DEADLINE, &NUMBER] {
+            one_step(tally, order, &set, &record, &State { slot, ..State::FRESH });
+        }
     }
 }
