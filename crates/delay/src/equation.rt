@@ -18,7 +18,7 @@ pub fn joined_bound(c: u16, x: u32, w: u32, m: u32) -> u32
 }
 
 // What a list adds to the sums of typeof.q.S and of typeof.q.C of a flow.
-#[derive(Drop)]
+#[derive(Clone, Copy)]
 struct RemainderSums {
     conflict: u16,
     work: u16,

@@ -16,7 +16,7 @@ use crate::{conflicts, equation, shares, verdicts};
 use model::{Fault, FixedBounds, FixedVerdict, Flow, FlowSet, Refusal};
 
 // The bound of every flow, 0 beyond the last flow and for a flow that is not judged, and how many flows are judged: they are the first ones.
-#[derive(Drop)]
+#[derive(Clone, Copy)]
 pub struct AllFixed {
     pub fault: Fault,
     pub bound: [u32; Flow::MOST],
@@ -65,7 +65,7 @@ fn work_of_packets(n: u32, each: u16) -> u32
 }
 
 // The sums of typeof.n.S and typeof.n.C over the flows that go first.
-#[derive(Drop)]
+#[derive(Clone, Copy)]
 struct FirstSums {
     conflict: u32,
     whole: u32,

@@ -1,5 +1,7 @@
 // The two delay tests of document 01: both bounds of every flow, the verdicts of a set, and one flow's bounds. The shares of each pair of
 // flows, as far as no round changes them, are tables that are made once. Request 4's test for fixed priority is a module of its own.
+#![tactic(auto)]
+
 ghost use Rattle.std.specs.Prelude.{◌<◌, ◌≤◌, replicate, ◌≡◌, true};
 ghost use Rattle.delay.specs.DelayTables.{DeadlinesOf, TablesHold, blank_tables, tables_of};
 ghost use Rattle.delay.specs.BoundsReached.{BothBoundsOf};

@@ -22,7 +22,7 @@ pub fn deadline_less_value(deadline: u16, value: u32) -> u16
 }
 
 // A list after a round, by its slack, and whether the round changed it.
-#[derive(Drop)]
+#[derive(Clone, Copy)]
 pub struct Round {
     pub slack: [u16; Flow::MOST],
     pub changed: bool,
@@ -76,7 +76,7 @@ fn one_round<'a>(
 }
 
 // The list at which the rounds end, by its slack, and the number of rounds.
-#[derive(Drop)]
+#[derive(Clone, Copy)]
 pub struct Reached {
     pub slack: [u16; Flow::MOST],
     pub rounds: u32,

@@ -106,7 +106,7 @@ pub fn times(q: u16, count: u16) -> u32
 }
 
 // The sums of typeof.q.S and typeof.q.C over the flows other than one.
-#[derive(Drop)]
+#[derive(Clone, Copy)]
 struct PacketSums {
     conflict: u32,
     work: u32,

@@ -25,7 +25,7 @@ fn margin(deadline: u16, bound: u32) -> i32
 }
 
 // Both bounds of every flow and the number of rounds, 0 beyond the last flow.
-#[derive(Drop)]
+#[derive(Clone, Copy)]
 pub struct AllBounds {
     pub fault: Fault,
     pub basic: [u32; Flow::MOST],

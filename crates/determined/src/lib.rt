@@ -1,6 +1,8 @@
 // Each contract determines its function's result: called twice on the same inputs, a function gives the same answer, and memory that
 // was lent with the same contents ends with the same contents. That is proved from the contracts alone, since this crate sees
 // nothing else. There is a module for each crate whose functions are called, and `two` has the pairs of answers.
+#![tactic(auto)]
+
 pub mod of_delay;
 pub mod of_machine;
 pub mod of_plan_text;

@@ -9,116 +9,116 @@ use model::{
 use probe::{ProbeFault, ProbeRan, ProbeReading, ProbeStepped};
 use superframe_table::Part;
 
-#[derive(Drop)]
+#[derive(Clone, Copy)]
 pub struct TwoSlot(pub Slot, pub Slot);
 
-#[derive(Drop)]
+#[derive(Clone, Copy)]
 pub struct TwoSpan(pub Span, pub Span);
 
-#[derive(Drop)]
+#[derive(Clone, Copy)]
 pub struct TwoBool(pub bool, pub bool);
 
-#[derive(Drop)]
+#[derive(Clone, Copy)]
 pub struct TwoChannelMap(pub ChannelMap, pub ChannelMap);
 
-#[derive(Drop)]
+#[derive(Clone, Copy)]
 pub struct TwoU32(pub u32, pub u32);
 
-#[derive(Drop)]
+#[derive(Clone, Copy)]
 pub struct TwoFlow(pub Flow, pub Flow);
 
-#[derive(Drop)]
+#[derive(Clone, Copy)]
 pub struct TwoFlowSet(pub FlowSet, pub FlowSet);
 
-#[derive(Drop)]
+#[derive(Clone, Copy)]
 pub struct TwoState(pub State, pub State);
 
-#[derive(Drop)]
+#[derive(Clone, Copy)]
 pub struct TwoLimits(pub Limits, pub Limits);
 
-#[derive(Drop)]
+#[derive(Clone, Copy)]
 pub struct TwoU16(pub u16, pub u16);
 
-#[derive(Drop)]
+#[derive(Clone, Copy)]
 pub struct TwoRefusal(pub Refusal, pub Refusal);
 
-#[derive(Drop)]
+#[derive(Clone, Copy)]
 pub struct TwoFault(pub Fault, pub Fault);
 
-#[derive(Drop)]
+#[derive(Clone, Copy)]
 pub struct TwoReading(pub Reading, pub Reading);
 
-#[derive(Drop)]
+#[derive(Clone, Copy)]
 pub struct TwoWritten(pub Written, pub Written);
 
-#[derive(Drop)]
+#[derive(Clone, Copy)]
 pub struct TwoUsize(pub usize, pub usize);
 
-#[derive(Drop)]
+#[derive(Clone, Copy)]
 pub struct TwoAllBounds(pub AllBounds, pub AllBounds);
 
-#[derive(Drop)]
+#[derive(Clone, Copy)]
 pub struct TwoVerdict(pub Verdict, pub Verdict);
 
-#[derive(Drop)]
+#[derive(Clone, Copy)]
 pub struct TwoBounds(pub Bounds, pub Bounds);
 
-#[derive(Drop)]
+#[derive(Clone, Copy)]
 pub struct TwoStepped(pub Stepped, pub Stepped);
 
-#[derive(Drop)]
+#[derive(Clone, Copy)]
 pub struct TwoRan(pub Ran, pub Ran);
 
-#[derive(Drop)]
+#[derive(Clone, Copy)]
 pub struct TwoVerdictAnswer(pub VerdictAnswer, pub VerdictAnswer);
 
-#[derive(Drop)]
+#[derive(Clone, Copy)]
 pub struct TwoBoundsAnswer(pub BoundsAnswer, pub BoundsAnswer);
 
-#[derive(Drop)]
+#[derive(Clone, Copy)]
 pub struct TwoSlotAnswer(pub SlotAnswer, pub SlotAnswer);
 
-#[derive(Drop)]
+#[derive(Clone, Copy)]
 pub struct TwoTableAnswer(pub TableAnswer, pub TableAnswer);
 
-#[derive(Drop)]
+#[derive(Clone, Copy)]
 pub struct TwoProbeStepped(pub ProbeStepped, pub ProbeStepped);
 
-#[derive(Drop)]
+#[derive(Clone, Copy)]
 pub struct TwoProbeRan(pub ProbeRan, pub ProbeRan);
 
-#[derive(Drop)]
+#[derive(Clone, Copy)]
 pub struct TwoProbeFault(pub ProbeFault, pub ProbeFault);
 
-#[derive(Drop)]
+#[derive(Clone, Copy)]
 pub struct TwoProbeReading(pub ProbeReading, pub ProbeReading);
 
-#[derive(Drop)]
+#[derive(Clone, Copy)]
 pub struct TwoTabled(pub Tabled, pub Tabled);
 
-#[derive(Drop)]
+#[derive(Clone, Copy)]
 pub struct TwoSuperframeAnswer(pub SuperframeAnswer, pub SuperframeAnswer);
 
-#[derive(Drop)]
+#[derive(Clone, Copy)]
 pub struct TwoLinesAnswer(pub LinesAnswer, pub LinesAnswer);
 
-#[derive(Drop)]
+#[derive(Clone, Copy)]
 pub struct TwoRowsAnswer(pub RowsAnswer, pub RowsAnswer);
 
-#[derive(Drop)]
+#[derive(Clone, Copy)]
 pub struct TwoPart(pub Part, pub Part);
 
-#[derive(Drop)]
+#[derive(Clone, Copy)]
 pub struct TwoAllFixed(pub AllFixed, pub AllFixed);
 
-#[derive(Drop)]
+#[derive(Clone, Copy)]
 pub struct TwoFixedVerdict(pub FixedVerdict, pub FixedVerdict);
 
-#[derive(Drop)]
+#[derive(Clone, Copy)]
 pub struct TwoFixedBounds(pub FixedBounds, pub FixedBounds);
 
-#[derive(Drop)]
+#[derive(Clone, Copy)]
 pub struct TwoFixedVerdictAnswer(pub FixedVerdictAnswer, pub FixedVerdictAnswer);
 
-#[derive(Drop)]
+#[derive(Clone, Copy)]
 pub struct TwoFixedBoundsAnswer(pub FixedBoundsAnswer, pub FixedBoundsAnswer);

@@ -1,4 +1,6 @@
 // The program for fixed priority: a set on standard input; its verdict, bounds and first slots on standard output. What fails is said on standard error.
+#![tactic(auto)]
+
 ghost use Rattle.std.specs.Prelude.{◌≤◌, ◌≡◌, length, take};
 ghost use Rattle.document.specs.Reader.{wrote};
 ghost use Rattle.document.specs.Fixed.{fixed_text};

@@ -14,7 +14,7 @@ use crate::packets::is_ready;
 use model::{ChannelMap, Flow, Slot};
 
 // The two ends of a link.
-#[derive(Drop)]
+#[derive(Clone, Copy)]
 pub struct Ends {
     pub from: u16,
     pub to: u16,

@@ -1,5 +1,7 @@
 // The slot machine: one step of it, and a run of many from the fresh state, whose transmissions can be put into a table. It takes ready packets by
 // absolute deadline, as document 01 says, or by flow number, as request 4 does; the order of priority is all that differs.
+#![tactic(auto)]
+
 ghost use Rattle.std.specs.Prelude.{◌≡◌, true};
 ghost use Rattle.model.specs.Sets.{used};
 ghost use Rattle.document.specs.Machine.{order_of, run_of, run_with, step_of};

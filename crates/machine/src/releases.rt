@@ -53,7 +53,7 @@ fn release(
 }
 
 // No release comes before `soonest`, and until then the first `waiting` entries of the order hold every ready packet.
-#[derive(Drop)]
+#[derive(Clone, Copy)]
 pub struct UntilRelease {
     pub soonest: Slot,
     pub waiting: usize,

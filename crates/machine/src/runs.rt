@@ -24,7 +24,7 @@ use crate::rows::{put_rows, rows_of};
 use model::{ChannelMap, Fault, Flow, FlowSet, Order, Ran, Slot, State, bit};
 
 // How many packets a slot delivers and drops.
-#[derive(Drop)]
+#[derive(Clone, Copy)]
 struct SlotCounts {
     delivered: u32,
     dropped: u32,
@@ -71,7 +71,7 @@ fn waiting_after(placed: usize, waiting: usize) -> usize
 }
 
 // How many packets a slot places, delivers and drops, and how many of the order wait after it.
-#[derive(Drop)]
+#[derive(Clone, Copy)]
 struct SlotEnd {
     placed: usize,
     delivered: u32,
@@ -127,7 +127,7 @@ fn count_slot(
 }
 
 // What a run knows after one slot: the soonest release, how many of the order wait, and how many packets the slot placed, delivered and dropped.
-#[derive(Drop)]
+#[derive(Clone, Copy)]
 struct SlotRun {
     soonest: Slot,
     waiting: usize,
@@ -205,7 +205,7 @@ fn run_slot(
 }
 
 // How many packets a run delivers and drops.
-#[derive(Drop)]
+#[derive(Clone, Copy)]
 struct RunCounts {
     delivered: u64,
     dropped: u64,
@@ -290,7 +290,7 @@ fn reached(budget: u32) -> Slot
 }
 
 // What a run ends with: the state, and how many packets were delivered and dropped.
-#[derive(Drop)]
+#[derive(Clone, Copy)]
 pub struct RunEnd {
     pub last: State,
     pub delivered: u64,

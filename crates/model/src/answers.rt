@@ -6,7 +6,7 @@ ghost use Rattle.model.specs.Sums.{bit};
 use crate::kinds::{ChannelMap, Flow, FlowSet, Slot, Span, State};
 
 // Why a set, a text, a state or a request is refused.
-#[derive(Drop)]
+#[derive(Clone, Copy)]
 pub enum Refusal {
     Nothing,
     BadForm,
@@ -55,7 +55,7 @@ impl Refusal {
 }
 
 // A number's reading ends either in its value, with the place after it, or in a refusal.
-#[derive(Drop)]
+#[derive(Clone, Copy)]
 pub enum NumberRead {
     Value(u16, usize),
     Refused,
@@ -63,7 +63,7 @@ pub enum NumberRead {
 
 // A refusal with the line it names and that line's field, 0 where it names none. A table can have more lines than 32 bits count, and a line
 // more fields.
-#[derive(Drop)]
+#[derive(Clone, Copy)]
 pub struct Fault {
     pub refusal: Refusal,
     pub line: usize,
@@ -110,14 +110,14 @@ impl Fault {
 }
 
 // The reader's answer: the set, or the fault and the blank set.
-#[derive(Drop)]
+#[derive(Clone, Copy)]
 pub struct Reading {
     pub fault: Fault,
     pub set: FlowSet,
 }
 
 // The writer's answer: how many bytes stand in the lent buffer.
-#[derive(Drop)]
+#[derive(Clone, Copy)]
 pub struct Written {
     pub fault: Fault,
     pub length: usize,
@@ -132,7 +132,7 @@ impl Written {
     }
 }
 
-#[derive(Drop)]
+#[derive(Clone, Copy)]
 pub struct Verdict {
     pub fault: Fault,
     pub basic: bool,
@@ -155,7 +155,7 @@ impl Verdict {
 }
 
 // One flow's bounds. `work` is C.
-#[derive(Drop)]
+#[derive(Clone, Copy)]
 pub struct Bounds {
     pub fault: Fault,
     pub work: u32,
@@ -182,7 +182,7 @@ impl Bounds {
 }
 
 // Request 4's test for fixed priority: whether it admits, and how many flows were judged.
-#[derive(Drop)]
+#[derive(Clone, Copy)]
 pub struct FixedVerdict {
     pub fault: Fault,
     pub admitted: bool,
@@ -203,7 +203,7 @@ impl FixedVerdict {
 }
 
 // One flow's bound by the test for fixed priority; 0 for a flow that is not judged. `work` is C.
-#[derive(Drop)]
+#[derive(Clone, Copy)]
 pub struct FixedBounds {
     pub fault: Fault,
     pub work: u32,
@@ -228,7 +228,7 @@ impl FixedBounds {
 }
 
 // What stands in a lent table: how many numbers, and how many slots they are for (0 where they were read from lines).
-#[derive(Drop)]
+#[derive(Clone, Copy)]
 pub struct Tabled {
     pub fault: Fault,
     pub hyper: u32,
@@ -256,7 +256,7 @@ impl Tabled {
 
 // One transmission: in `slot`, over the link `from` to `to`.
 #[repr(C)]
-#[derive(Drop)]
+#[derive(Clone, Copy)]
 pub struct Send {
     pub slot: Slot,
     pub flow: u16,
@@ -268,14 +268,14 @@ pub struct Send {
 }
 
 #[repr(C)]
-#[derive(Drop)]
+#[derive(Clone, Copy)]
 pub struct Delivery {
     pub flow: u16,
     pub delay: Span,
 }
 
 // A slot's answer. The entries of each array from its count on are blank.
-#[derive(Drop)]
+#[derive(Clone, Copy)]
 pub struct Stepped {
     pub fault: Fault,
     pub next: State,
@@ -288,7 +288,7 @@ pub struct Stepped {
 }
 
 // A run's answer: the last state, and how many packets were delivered and dropped.
-#[derive(Drop)]
+#[derive(Clone, Copy)]
 pub struct Ran {
     pub fault: Fault,
     pub last: State,
@@ -299,7 +299,7 @@ pub struct Ran {
 // What C is answered: document 01's number for the refusal, and a test as 1 or 0.
 
 #[repr(C)]
-#[derive(Drop)]
+#[derive(Clone, Copy)]
 pub struct VerdictAnswer {
     pub refusal: u32,
     pub line: usize,
@@ -310,7 +310,7 @@ pub struct VerdictAnswer {
 }
 
 #[repr(C)]
-#[derive(Drop)]
+#[derive(Clone, Copy)]
 pub struct BoundsAnswer {
     pub refusal: u32,
     pub line: usize,
@@ -323,7 +323,7 @@ pub struct BoundsAnswer {
 }
 
 #[repr(C)]
-#[derive(Drop)]
+#[derive(Clone, Copy)]
 pub struct SlotAnswer {
     pub refusal: u32,
     pub line: usize,
@@ -333,7 +333,7 @@ pub struct SlotAnswer {
 
 // How many 32-bit numbers of a lent table are the bounds of all flows.
 #[repr(C)]
-#[derive(Drop)]
+#[derive(Clone, Copy)]
 pub struct TableAnswer {
     pub refusal: u32,
     pub line: usize,
@@ -342,7 +342,7 @@ pub struct TableAnswer {
 }
 
 #[repr(C)]
-#[derive(Drop)]
+#[derive(Clone, Copy)]
 pub struct FixedVerdictAnswer {
     pub refusal: u32,
     pub line: usize,
@@ -352,7 +352,7 @@ pub struct FixedVerdictAnswer {
 }
 
 #[repr(C)]
-#[derive(Drop)]
+#[derive(Clone, Copy)]
 pub struct FixedBoundsAnswer {
     pub refusal: u32,
     pub line: usize,
@@ -365,7 +365,7 @@ pub struct FixedBoundsAnswer {
 
 // How many 16-bit numbers the table of a superframe has, and how many slots.
 #[repr(C)]
-#[derive(Drop)]
+#[derive(Clone, Copy)]
 pub struct SuperframeAnswer {
     pub refusal: u32,
     pub line: usize,
@@ -376,7 +376,7 @@ pub struct SuperframeAnswer {
 
 // How many bytes the lines of a table are. Lines of a table have no field to be named.
 #[repr(C)]
-#[derive(Drop)]
+#[derive(Clone, Copy)]
 pub struct LinesAnswer {
     pub refusal: u32,
     pub line: usize,
@@ -385,7 +385,7 @@ pub struct LinesAnswer {
 
 // How many 16-bit numbers were read from the lines of a table.
 #[repr(C)]
-#[derive(Drop)]
+#[derive(Clone, Copy)]
 pub struct RowsAnswer {
     pub refusal: u32,
     pub line: usize,

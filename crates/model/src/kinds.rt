@@ -7,12 +7,12 @@ ghost use Rattle.model.specs.Limits.{limits_of};
 
 // An absolute slot number: slots of 10 ms, counted from the machine's first.
 #[repr(C)]
-#[derive(Drop)]
+#[derive(Clone, Copy)]
 pub struct Slot(pub u32);
 
 // A count of slots: a period, a relative deadline, a delay.
 #[repr(C)]
-#[derive(Drop)]
+#[derive(Clone, Copy)]
 pub struct Span(pub u16);
 
 impl Slot {
@@ -89,7 +89,7 @@ impl Span {
 
 // Bit i stands for IEEE 802.15.4 channel 11 + i.
 #[repr(C)]
-#[derive(Drop)]
+#[derive(Clone, Copy)]
 pub struct ChannelMap(pub u16);
 
 impl ChannelMap {
@@ -113,7 +113,7 @@ impl ChannelMap {
 
 // A flow as a record. Every value of every field is accepted by every function; the record check says which are good.
 #[repr(C)]
-#[derive(Drop)]
+#[derive(Clone, Copy)]
 pub struct Flow {
     pub period: Span,
     pub deadline: Span,
@@ -170,7 +170,7 @@ impl Flow {
 }
 
 #[repr(C)]
-#[derive(Drop)]
+#[derive(Clone, Copy)]
 pub struct FlowSet {
     pub map: ChannelMap,
     pub count: u16,
@@ -192,7 +192,7 @@ impl FlowSet {
 
 // The slot machine's state: the present slot, and how many transmissions each flow's latest packet has had.
 #[repr(C)]
-#[derive(Drop)]
+#[derive(Clone, Copy)]
 pub struct State {
     pub slot: Slot,
     pub sent: [u8; Flow::MOST],
@@ -212,14 +212,14 @@ impl State {
 }
 
 // The orders in which rule 4 takes ready packets: earlier absolute deadline and then lower flow number, or lower flow number alone.
-#[derive(Drop)]
+#[derive(Clone, Copy)]
 pub enum Order {
     Deadline,
     Number,
 }
 
 // The limits, as the types have them.
-#[derive(Drop)]
+#[derive(Clone, Copy)]
 pub struct Limits {
     pub first_channel: u16,
     pub most_channels: usize,

@@ -1,5 +1,7 @@
 // What a planner speaks of: the records of document 01, their limits, and the answers that its functions give.
 // The definitions that give them their meaning stand in `specs/`.
+#![tactic(auto)]
+
 mod answers;
 mod kinds;
 

@@ -1,4 +1,6 @@
 // The plan program: a set on standard input, its plan on standard output. What fails is said on standard error.
+#![tactic(auto)]
+
 ghost use Rattle.std.specs.Prelude.{◌≤◌, ◌≡◌, length, take};
 ghost use Rattle.document.specs.Reader.{wrote};
 ghost use Rattle.document.specs.Program.{text_of_plan};

@@ -1,4 +1,6 @@
 // The plan of a text, as the program prints it; and what the program for fixed priority prints.
+#![tactic(auto)]
+
 ghost use Rattle.std.specs.Prelude.{length, true, ◌≡◌, ◌+◌, ◌≤◌};
 ghost use Rattle.text.specs.Put.{Put};
 ghost use Rattle.laws.specs.LinesRead.{last_line};

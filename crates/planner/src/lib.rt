@@ -1,5 +1,7 @@
 // What C calls: the verdict, one flow's bounds, those of all flows, one slot and the superframe, over a set's text; a table's lines; a radio channel;
 // the verdict, one flow's bound and one slot with fixed priority.
+#![tactic(auto)]
+
 ghost use Rattle.std.specs.Prelude.{◌≡◌, length};
 ghost use Rattle.document.specs.Reader.{read_text};
 ghost use Rattle.document.specs.Machine.{lower};

@@ -1,5 +1,7 @@
 // What C cannot reach, exported for the comparison alone: every function over a record, and the plan's text. The refusal is document 01's
 // number, and a test is 1 or 0.
+#![tactic(auto)]
+
 ghost use Rattle.std.specs.Prelude.{length, ◌≡◌};
 ghost use Rattle.model.specs.Sets.{used};
 ghost use Rattle.document.specs.Reader.{read_text, record_fault, write_answer, write_into};
@@ -17,7 +19,7 @@ use model::{
 };
 
 #[repr(C)]
-#[derive(Drop)]
+#[derive(Clone, Copy)]
 pub struct ProbeFault {
     pub refusal: u32,
     pub line: usize,
@@ -25,14 +27,14 @@ pub struct ProbeFault {
 }
 
 #[repr(C)]
-#[derive(Drop)]
+#[derive(Clone, Copy)]
 pub struct ProbeReading {
     pub fault: ProbeFault,
     pub set: FlowSet,
 }
 
 #[repr(C)]
-#[derive(Drop)]
+#[derive(Clone, Copy)]
 pub struct ProbeStepped {
     pub fault: ProbeFault,
     pub next: State,
@@ -45,7 +47,7 @@ pub struct ProbeStepped {
 }
 
 #[repr(C)]
-#[derive(Drop)]
+#[derive(Clone, Copy)]
 pub struct ProbeRan {
     pub fault: ProbeFault,
     pub last: State,

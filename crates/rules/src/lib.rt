@@ -1,5 +1,7 @@
 // Rules 2 to 9 of document 01, in their order, of the numbers that a line holds. And the record check: the same rules of a set that is
 // handed over as a record, line by line as its text would be judged.
+#![tactic(auto)]
+
 ghost use Rattle.std.specs.Prelude.{◌≡◌, ◌||◌, ltb, take};
 ghost use Rattle.rules.specs.Rules.{route_fault};
 ghost use Rattle.document.specs.Reader.{flow_fault, flows_fault, map_fault, record_fault, record_flow_fault};

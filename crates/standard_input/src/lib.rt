@@ -1,11 +1,13 @@
 // Standard input read to its end, for the programs. A failed read is not the end: else the first lines of a set would be taken for the set.
+#![tactic(auto)]
+
 ghost use Rattle.std.specs.Prelude.{◌≡◌, length};
 ghost use Rattle.standard_input.specs.Reads.{CameWithin, came_of, InputWithin};
 
 use libc::STDIN_FILENO;
 
 // What one read did.
-#[derive(Drop)]
+#[derive(Clone, Copy)]
 pub enum Came {
     Bytes(usize),
     End,
@@ -14,7 +16,7 @@ pub enum Came {
 }
 
 // The whole input, or none of it.
-#[derive(Drop)]
+#[derive(Clone, Copy)]
 pub enum Input {
     Whole(usize),
     Failed,

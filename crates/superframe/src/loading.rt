@@ -8,7 +8,7 @@ use model::{Fault, FlowSet, Refusal};
 pub const MOST_INPUT: usize = 16384;
 
 // A set that is loaded, with its hyper-period; or the refusal and the blank set.
-#[derive(Drop)]
+#[derive(Clone, Copy)]
 pub struct Loaded {
     pub fault: Fault,
     pub hyper: u32,

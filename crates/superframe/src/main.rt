@@ -1,4 +1,6 @@
 // The superframe program: a set on standard input, the lines of its table on standard output. What fails is said on standard error.
+#![tactic(auto)]
+
 mod loading;
 
 ghost use Rattle.std.specs.Prelude.{true, ◌≡◌, ◌+◌, ◌≤◌, length, take};
@@ -19,7 +21,7 @@ use standard_input::{Input, read_input};
 const MOST_REFUSAL: usize = 48;
 
 // What came of writing: so many parts of the table, the line of the refusal, or a write that failed.
-#[derive(Drop)]
+#[derive(Clone, Copy)]
 pub enum Wrote {
     Parts(usize),
     Refusal,

@@ -1,4 +1,6 @@
 // The superframe's table: how many slots and numbers it has, its rows, and what refuses it.
+#![tactic(auto)]
+
 ghost use Rattle.std.specs.Prelude.{◌≡◌, length};
 ghost use Rattle.model.specs.Sets.{used};
 ghost use Rattle.document.specs.Superframe.{size_answer, superframe_answer, superframe_into};

@@ -11,7 +11,7 @@ ghost use Rattle.superframe_table.specs.Parts.{most_slot, part_of, part_slots, p
 use model::{ChannelMap, Flow, FlowSet, Send, State};
 
 // The state after a part's last slot, and how many bytes of the lent buffer are its lines.
-#[derive(Drop)]
+#[derive(Clone, Copy)]
 pub struct Part {
     pub state: State,
     pub length: usize,

@@ -1,4 +1,6 @@
 // Document 01's text: the reader and the writer of flow sets, and what puts lines into a lent buffer.
+#![tactic(auto)]
+
 mod digits;
 mod field;
 mod line;

@@ -87,7 +87,7 @@ pub fn number_at(s: &[u8], from: usize) -> NumberRead
 }
 
 // A line's answer: whether it has the form, how many numbers, the first of them, and the place of the next line.
-#[derive(Drop)]
+#[derive(Clone, Copy)]
 pub struct Row {
     pub formed: bool,
     pub count: usize,

@@ -13,14 +13,14 @@ use crate::line;
 use model::{Fault, NumberRead, Refusal, Tabled};
 
 // A row's reading ends either in its slot and its offset, with the place of the next line, or in that the line lacks the form.
-#[derive(Drop)]
+#[derive(Clone, Copy)]
 pub enum RowRead {
     Found(u16, u16, usize),
     Bad,
 }
 
 // The lines of a text, judged: the fault of the first that is bad, and how many rows there are before it, or in all.
-#[derive(Drop)]
+#[derive(Clone, Copy)]
 pub struct Judged {
     pub fault: Fault,
     pub rows: usize,
