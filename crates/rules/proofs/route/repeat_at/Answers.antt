@@ -1,4 +1,3 @@
--- `repeat_at` passes the nodes in order: those passed differ from the ones just before them. Assumes nothing.
 use mathlib.Core.Path.{◌≡◌, sym, ap, ◌∙◌}
 use mathlib.Core.Logic.{◌≢◌}
 use mathlib.Core.List.{List}
@@ -11,30 +10,16 @@ use Rattle.model.specs.Limits.{most_nodes}
 use Rattle.document.specs.Reader.{repeat_at}
 use Rattle.laws.specs.Neighbours.{Differ, FirstRepeat, repeat_found, repeat_passed}
 use Rattle.laws.specs.Taken.{take_min}
-use Rattle.rules.proofs.route.repeat_at.Statement.{statement}
-use Rattle.rules.proofs.route.repeat_at.Tie as tie
-
--- the pass that has come to place i of the first `end` nodes
-record Passed (n : ℕ) (route : List ℕ) (end i : ℕ) : Type 0 where
-  long : length route ≡ most_nodes
-  ends : end ≡ min n most_nodes
-  few : end ≤ most_nodes
-  from : 1 ≤ i
-  differ : Differ route i
-
-abbrev invariant-loop : tie.invariant-loop
-invariant-loop n route end i₀ i = Passed n route end i
-
-abbrev decreases-loop : tie.decreases-loop
-decreases-loop n route end i₀ i = end - i
+use Rattle.rules.proofs.route.repeat_at.Invariants.{Passed}
+use Rattle.rules.proofs.route.repeat_at.Goals as goal
 
 -- before the second node there is none to compare
-loop-holds : tie.Need-loop-init invariant-loop decreases-loop
-loop-holds c =
+pub loop-i-init : goal.loop-i-init
+loop-i-init c =
     record {
       long = search rules;
-      ends = c.nodes-in.ensures.0;
-      few = c.nodes-in.ensures.1;
+      ends = c.nodes_in-end.ensures.0;
+      few = c.nodes_in-end.ensures.1;
       from = omega arith;
       differ = λ j a b. absurd (omega arith);
     }
@@ -60,30 +45,11 @@ passed n r end i p h =
     let f : end ≤ length r = omega (arith, p.long, p.few) in
     sym (repeat_passed r end f (λ j a b. p.differ j a (omega arith))) ∙ ap repeat_at (take_min r most_nodes n end p.long p.ends)
 
-returns : tie.Need-returns invariant-loop decreases-loop
-returns c = found _ _ _ _ c.before.before.loop.invariant (omega arith) c.if1.true
+pub returns-then-route-i : goal.returns-then-route-i
+returns-then-route-i c = found _ _ _ _ c.loop-i.invariant (omega arith) c.if-route-i.true
 
-loop-again : tie.Need-loop-preserved invariant-loop decreases-loop
-loop-again c = on _ _ _ _ c.before.before.loop.invariant c.if1.false
+pub loop-i-preserved : goal.loop-i-preserved
+loop-i-preserved c = on _ _ _ _ c.loop-i.invariant c.if-route-i.false
 
-returns-2 : tie.Need-returns-2 invariant-loop decreases-loop
-returns-2 c = passed _ _ _ _ c.before.loop.invariant (omega arith)
-
-pub repeat-at-spec : {M : Type 1} → statement M
-repeat-at-spec =
-    tie.close
-    (tie.spec
-    invariant-loop
-    decreases-loop
-    (λ c κs. search rules)
-    loop-holds
-    (λ c. search rules)
-    (λ c. search rules)
-    (λ c. search rules)
-    (λ c. search rules)
-    (λ c. search rules)
-    returns
-    (λ c. search rules)
-    (λ c. search rules)
-    loop-again
-    returns-2)
+pub returns : goal.returns
+returns c = passed _ _ _ _ c.loop-i.invariant (omega arith)

@@ -1,0 +1,17 @@
+-- `flows_fault` judges the flows in order: what is left has the same first fault at each number. Assumes nothing.
+use mathlib.Core.Path.{◌≡◌, refl, sym, ap, ◌∙◌}
+use Prim.Native.Nat.{◌-◌, ◌≤◌}
+use native.Mathlib.Omega.{arith}
+use borrow.Author.Rules.{rules}
+use Rattle.model.specs.declared.answers.Refusal.TheVariants.{TooManyFlows}
+use Rattle.model.specs.Sets.{used}
+use Rattle.document.specs.Reader.{flows_fault}
+use Rattle.rules.specs.RecordFlows.{flows_here, flows_on, flows_end, flow_fault_at, too_many}
+use Rattle.model.specs.Limits.{most_flows}
+use Rattle.rules.proofs.flows_fault.Given as goal
+
+abbrev pub invariant-loop-k : goal.invariant-loop-k
+invariant-loop-k l = (l.k ≤ most_flows) × (l.n ≡ l.s.count) × (flows_fault (used l.s) 0 l.s.count ≡ flows_fault (used l.s) l.k (l.s.count - l.k))
+
+abbrev pub decreases-loop-k : goal.decreases-loop-k
+decreases-loop-k l = l.n - l.k

@@ -1,0 +1,28 @@
+-- `repeat_at` passes the nodes in order: those passed differ from the ones just before them. Assumes nothing.
+use mathlib.Core.Path.{◌≡◌, sym, ap, ◌∙◌}
+use mathlib.Core.Logic.{◌≢◌}
+use mathlib.Core.List.{List}
+use Prim.Native.Nat.{ℕ, ◌+◌, ◌-◌, ◌≤◌, ◌<◌, min}
+use native.Mathlib.Decide.{dec_le}
+use native.Mathlib.Omega.{arith}
+use borrow.Author.Rules.{rules}
+use lib.ListN.{length, get_or, take}
+use Rattle.model.specs.Limits.{most_nodes}
+use Rattle.document.specs.Reader.{repeat_at}
+use Rattle.laws.specs.Neighbours.{Differ, FirstRepeat, repeat_found, repeat_passed}
+use Rattle.laws.specs.Taken.{take_min}
+use Rattle.rules.proofs.route.repeat_at.Given as goal
+
+-- the pass that has come to place i of the first `end` nodes
+pub record Passed (n : ℕ) (route : List ℕ) (end i : ℕ) : Type 0 where
+  pub long : length route ≡ most_nodes
+  pub ends : end ≡ min n most_nodes
+  pub few : end ≤ most_nodes
+  pub from : 1 ≤ i
+  pub differ : Differ route i
+
+abbrev pub invariant-loop-i : goal.invariant-loop-i
+invariant-loop-i l = Passed l.n l.route l.end l.i
+
+abbrev pub decreases-loop-i : goal.decreases-loop-i
+decreases-loop-i l = l.end - l.i
