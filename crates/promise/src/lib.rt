@@ -3,4 +3,3 @@
 // hold for any order of priority, but for DeadlineOrder, NumberOrder and what says `ahead` or `lower`. Load, Waiting, SlotChoice and Schedule are
 // the argument on plain numbers that a packet is done in time; Within adds what only document 01's order has, ByNumber what only request 4's has.
 #![tactic(auto)]
-
