@@ -6,7 +6,6 @@ use Rattle.document.specs.Reader.{record_fault}
 use Rattle.model.specs.Sets.{used}
 use Rattle.delay.specs.AcceptedFlows.{not_refused, is_refused}
 use Rattle.delay.specs.BoundsReached.{all_refused}
-use borrow.Author.Rules.{rules}
 use Rattle.delay.proofs.all_bounds.Goals as goal
 use Rattle.delay.proofs.all_bounds.Goals.{Else-refuses}
 

@@ -6,7 +6,6 @@ use Rattle.delay.specs.DelayTables.{Tables, tables_of}
 use Rattle.delay.specs.EquationValues.{SumsFitTo, sums_fit_carried}
 use Rattle.delay.specs.BoundsReached.{basic_carried, tight_carried, values_ext}
 use Rattle.laws.specs.Accepted.{ones_pos}
-use borrow.Author.Rules.{rules}
 use Rattle.model.specs.Limits.{most_flows}
 use Rattle.delay.proofs.bounds_by_tables.Goals as goal
 use Rattle.delay.proofs.bounds_by_tables.Goals.{After-ways-m, Start}
@@ -29,7 +28,8 @@ values-basic-requires c = let held = asked c.before.before in record { n_le_most
 
 pub rounds-end-requires : goal.rounds-end-requires
 unfolding used
-rounds-end-requires c = let held = (c.requires.accepted.0, (c.requires.tables_hold_is, c.requires.accepted.1)) in record { accepted = held.0; tables_hold_is = held.1; deadlines_of = held.2 }
+rounds-end-requires c =
+    record { accepted = c.requires.accepted.0; tables_hold_is = c.requires.tables_hold_is; deadlines_of = c.requires.accepted.1 }
 
 pub values-tightened-requires : goal.values-tightened-requires
 unfolding used
@@ -47,6 +47,6 @@ returns c =
     record {
       fault = c.none.ensures;
       basics = values_ext _ _ _ _ (basic_carried u n t o _ e) c.values-basic.ensures;
-      tights = values_ext _ _ _ _ (tight_carried u n t o _ e _ c.requires.accepted.1.entries _ r.1 r.0.1) c.values-tightened.ensures;
-      rounds = r.0.0;
+      tights = values_ext _ _ _ _ (tight_carried u n t o _ e _ c.requires.accepted.1.entries _ r.slack_within r.rounds_value.1) c.values-tightened.ensures;
+      rounds = r.rounds_value.0;
     }

@@ -2,11 +2,10 @@
 use mathlib.Core.Path.{refl}
 use Rattle.laws.specs.Accepted.{accepted}
 use Rattle.delay.specs.BoundsReached.{all_given}
-use borrow.Author.Rules.{rules}
 use Rattle.delay.proofs.bounds_of_accepted.Goals as goal
 
 pub tabulate-requires : goal.tabulate-requires
-tabulate-requires c = let held = (accepted _ c.requires, (refl, refl)) in record { accepted = held.0; whole_work_value = held.1; deadline_value = held.2 }
+tabulate-requires c = record { accepted = accepted _ c.requires; whole_work_value = refl; deadline_value = refl }
 
 pub bounds_by_tables-requires : goal.bounds_by_tables-requires
 bounds_by_tables-requires c = record { accepted = (accepted _ c.requires, c.tabulate.ensures.deadlines_of); tables_hold_is = c.tabulate.ensures.tables_hold_is }

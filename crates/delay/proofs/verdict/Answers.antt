@@ -10,7 +10,8 @@ verdict_of-requires c = c.all_bounds-all.ensures
 pub returns : goal.returns
 returns c =
     let s = used c.args.s in
-    let e = c.verdict_of.ensures in let held = (e, (λ h. verdict_greatest s _ e h, verdict_rounds s _ e)) in record { answer = held.0; greatest = held.1; rounds = held.2 }
+    let e = c.verdict_of.ensures in
+    record { answer = e; greatest = λ h. verdict_greatest s _ e h; rounds = verdict_rounds s _ e }
 
 pub all_bounds-all-requires : goal.all_bounds-all-requires
 all_bounds-all-requires c = tt

@@ -2,7 +2,6 @@
 use mathlib.Core.Path.{sym, ap}
 use mathlib.Core.Bool.{Bool}
 use Rattle.delay.specs.PairGrids.{columns_of}
-use borrow.Author.Rules.{rules}
 use Rattle.delay.proofs.conflicts.columns.Goals as goal
 
 pub returns-then-below : goal.returns-then-below

@@ -1,13 +1,11 @@
 use mathlib.Core.Path.{ap, ◌∙◌}
-use Prim.Native.Nat.{ℕ, ◌*◌, ◌-◌, ◌≤◌, ◌<◌}
+use Prim.Native.Nat.{ℕ, ◌*◌, ◌<◌}
 use lib.ListN.{get_or}
 use native.Mathlib.Nat.{lt_of_le_of_lt, le_trans, le_of_eq, mul-le-mul}
 use native.Mathlib.Omega.{arith}
 use lib.Dec.{lit<}
-use Rattle.delay.specs.PairGrids.{RowDone, row_start, row_next}
-use Rattle.delay.specs.RouteLists.{listed_work}
-use Rattle.model.specs.Limits.{most_flows}
-use Rattle.laws.specs.Loops.{SoFar, begins, goes_on, ends}
+use Rattle.delay.specs.PairGrids.{row_start, row_next}
+use Rattle.laws.specs.Loops.{begins, goes_on, ends}
 use borrow.Author.Rules.{rules}
 use Rattle.delay.proofs.conflicts.conflict_row.Goals as goal
 

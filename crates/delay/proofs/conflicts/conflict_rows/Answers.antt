@@ -1,10 +1,8 @@
-use Prim.Native.Nat.{◌-◌}
 use native.Mathlib.Nat.{le_trans}
 use native.Mathlib.Omega.{arith}
-use Rattle.delay.specs.PairGrids.{RowsBy, columns_of, columns_own, columns_le, rows_next}
-use Rattle.delay.specs.RouteLists.{listed_work, listed_fewer}
-use Rattle.laws.specs.Loops.{SoFar, begins, goes_on, ends}
-use borrow.Author.Rules.{rules}
+use Rattle.delay.specs.PairGrids.{columns_of, columns_own, columns_le, rows_next}
+use Rattle.delay.specs.RouteLists.{listed_fewer}
+use Rattle.laws.specs.Loops.{begins, goes_on, ends}
 use Rattle.delay.proofs.conflicts.conflict_rows.Goals as goal
 
 pub conflict_row-requires : goal.conflict_row-requires

@@ -1,11 +1,8 @@
 -- `conflict_rows`: the first k rows hold S, each as far as its columns go. Assumes nothing beyond its `requires`.
 use Prim.Native.Nat.{◌-◌}
-use native.Mathlib.Nat.{le_trans}
-use native.Mathlib.Omega.{arith}
-use Rattle.delay.specs.PairGrids.{RowsBy, columns_of, columns_own, columns_le, rows_next}
-use Rattle.delay.specs.RouteLists.{listed_work, listed_fewer}
-use Rattle.laws.specs.Loops.{SoFar, begins, goes_on, ends}
-use borrow.Author.Rules.{rules}
+use Rattle.delay.specs.PairGrids.{RowsBy, columns_of}
+use Rattle.delay.specs.RouteLists.{listed_work}
+use Rattle.laws.specs.Loops.{SoFar}
 use Rattle.delay.proofs.conflicts.conflict_rows.Given as goal
 
 abbrev pub invariant-loop-k : goal.invariant-loop-k

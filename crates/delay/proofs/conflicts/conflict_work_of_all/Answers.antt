@@ -2,7 +2,6 @@
 use mathlib.Core.Bool.{false}
 use Rattle.delay.specs.PairGrids.{columns_of, columns_le}
 use Rattle.delay.specs.RouteLists.{listed_start, listed_blank, listed_rows}
-use borrow.Author.Rules.{rules}
 use Rattle.delay.proofs.conflicts.conflict_work_of_all.Goals as goal
 
 pub list_routes-requires : goal.list_routes-requires

@@ -1,9 +1,8 @@
 use mathlib.Core.Path.{◌≡◌}
-use Prim.Native.Nat.{ℕ, ◌+◌, ◌-◌, ◌≤◌}
+use Prim.Native.Nat.{ℕ, ◌+◌, ◌-◌}
 use native.Mathlib.Omega.{arith}
 use lib.ListN.{length-replicate}
-use Rattle.delay.specs.RoutePlaces.{Places, places_start, places_next}
-use Rattle.model.specs.Limits.{most_nodes}
+use Rattle.delay.specs.RoutePlaces.{places_start, places_next}
 use borrow.Author.Rules.{rules}
 use Rattle.delay.proofs.conflicts.first_places.Goals as goal
 

@@ -1,11 +1,7 @@
 -- `first_places`: each node from the last one on has a place that is not after it. Assumes nothing beyond its `requires`.
-use mathlib.Core.Path.{◌≡◌}
-use Prim.Native.Nat.{ℕ, ◌+◌, ◌-◌, ◌≤◌}
-use native.Mathlib.Omega.{arith}
-use lib.ListN.{length-replicate}
-use Rattle.delay.specs.RoutePlaces.{Places, places_start, places_next}
+use Prim.Native.Nat.{◌≤◌}
+use Rattle.delay.specs.RoutePlaces.{Places}
 use Rattle.model.specs.Limits.{most_nodes}
-use borrow.Author.Rules.{rules}
 use Rattle.delay.proofs.conflicts.first_places.Given as goal
 
 abbrev pub invariant-loop-from : goal.invariant-loop-from

@@ -1,10 +1,8 @@
 use mathlib.Core.Path.{◌≡◌, refl, sym, ap, ◌∙◌}
-use mathlib.Core.Bool.{false}
 use mathlib.Core.List.{[]}
-use Prim.Native.Nat.{ℕ, ◌+◌, ◌-◌, ◌≤◌}
+use Prim.Native.Nat.{ℕ, ◌+◌}
 use native.Mathlib.Omega.{arith}
-use lib.ListN.{length, get_or, take, drop}
-use Rattle.model.specs.Sums.{any_to}
+use lib.ListN.{get_or, take, drop}
 use Rattle.model.specs.Sets.{memb}
 use Rattle.laws.specs.SumLaws.{any_zero, any_next, any_in}
 use Rattle.laws.specs.Nodes.{memb_here, memb_on, memb_end}

@@ -1,10 +1,8 @@
 use mathlib.Core.Path.{◌≡◌, sym, ap₂, ◌∙◌}
-use mathlib.Core.List.{[]}
-use Prim.Native.Nat.{ℕ, ◌+◌, ◌-◌, ◌≤◌}
+use Prim.Native.Nat.{ℕ, ◌+◌}
 use native.Mathlib.Omega.{arith}
-use lib.ListN.{get_or, take}
 use Rattle.laws.specs.SumLaws.{sum_next, sum_zero}
-use Rattle.delay.specs.RoutePlaces.{ends_on, kind_of}
+use Rattle.delay.specs.RoutePlaces.{ends_on}
 use borrow.Author.Rules.{rules}
 use Rattle.delay.proofs.conflicts.links_touched.Goals as goal
 
@@ -14,7 +12,8 @@ loop-i-init c = (search rules, search rules, c.search_from-a.ensures, sym (sum_z
 
 pub link_counts-touched-requires : goal.link_counts-touched-requires
 link_counts-touched-requires c =
-    let p = c.requires in let held = ((p.0, p.1, omega arith, p.3, p.4), (c.loop-i.invariant.2, c.search_from-b.ensures)) in record { n_le_most_nodes = held.0; a_value = held.1; b_value = held.2 }
+    let p = c.requires in
+    record { n_le_most_nodes = (p.0, p.1, omega arith, p.3, p.4); a_value = c.loop-i.invariant.2; b_value = c.search_from-b.ensures }
 
 pub loop-i-preserved : goal.loop-i-preserved
 unfolding ends_on

@@ -1,11 +1,8 @@
 use mathlib.Core.Path.{refl}
-use Prim.Native.Nat.{◌-◌, ◌≤◌}
 use native.Mathlib.Omega.{arith}
 use Rattle.delay.specs.AcceptedFlows.{count_at_law}
-use Rattle.delay.specs.RouteLists.{ListedTo, listed_next}
-use Rattle.model.specs.Limits.{most_flows}
-use Rattle.laws.specs.Loops.{SoFar, begins, goes_on, ends}
-use borrow.Author.Rules.{rules}
+use Rattle.delay.specs.RouteLists.{listed_next}
+use Rattle.laws.specs.Loops.{begins, goes_on, ends}
 use Rattle.delay.proofs.conflicts.list_routes.Goals as goal
 
 pub loop-k-preserved : goal.loop-k-preserved

@@ -1,12 +1,8 @@
 -- `list_routes`: the first k entries are the routes, links and tries. Assumes nothing beyond its `requires`.
-use mathlib.Core.Path.{refl}
 use Prim.Native.Nat.{◌-◌, ◌≤◌}
-use native.Mathlib.Omega.{arith}
-use Rattle.delay.specs.AcceptedFlows.{count_at_law}
-use Rattle.delay.specs.RouteLists.{ListedTo, listed_next}
+use Rattle.delay.specs.RouteLists.{ListedTo}
 use Rattle.model.specs.Limits.{most_flows}
-use Rattle.laws.specs.Loops.{SoFar, begins, goes_on, ends}
-use borrow.Author.Rules.{rules}
+use Rattle.laws.specs.Loops.{SoFar}
 use Rattle.delay.proofs.conflicts.list_routes.Given as goal
 
 abbrev pub invariant-loop-k : goal.invariant-loop-k

@@ -1,5 +1,4 @@
 -- `search_from`: the entry of the node's kind. Assumes nothing beyond its `requires`.
-use borrow.Author.Rules.{rules}
 use Rattle.delay.proofs.conflicts.search_from.Goals as goal
 
 pub returns : goal.returns

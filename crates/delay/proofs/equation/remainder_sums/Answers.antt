@@ -1,11 +1,10 @@
 use mathlib.Core.Path.{◌≡◌, sym, ap, ap₂, ◌∙◌}
-use Prim.Native.Nat.{ℕ, ◌+◌, ◌-◌, ◌*◌, ◌≤◌, min}
+use Prim.Native.Nat.{ℕ, ◌+◌, min}
 use native.Mathlib.Omega.{arith}
 use lib.ListN.{get_or}
-use Rattle.model.specs.Sums.{sum_to}
 use Rattle.laws.specs.SumLaws.{sum_next, sum_zero}
 use Rattle.delay.specs.PairGrids.{pair_at}
-use Rattle.delay.specs.EquationValues.{remainder_less, conflict_remainders, work_remainders}
+use Rattle.delay.specs.EquationValues.{conflict_remainders, work_remainders}
 use borrow.Author.Rules.{rules}
 use Rattle.model.specs.Limits.{most_flows}
 use Rattle.delay.proofs.equation.remainder_sums.Goals as goal
@@ -17,7 +16,6 @@ loop-l-init c = (
   search rules,
   sym (sum_zero _ 0 (λ j h. omega arith)),
   sym (sum_zero _ 0 (λ j h. omega arith)),
-
 )
 
 pub overflow_add-x : goal.overflow_add-x

@@ -4,7 +4,6 @@ use Prim.Native.Nat.{ℕ, ◌+◌}
 use lib.ListN.{get_or}
 use Rattle.document.specs.Delay.{joined}
 use Rattle.delay.specs.EquationValues.{table_value}
-use borrow.Author.Rules.{rules}
 use Rattle.delay.proofs.equation.value.Goals as goal
 
 pub returns : goal.returns

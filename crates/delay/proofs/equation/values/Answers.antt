@@ -1,9 +1,6 @@
-use Prim.Native.Nat.{◌-◌}
 use native.Mathlib.Omega.{arith}
-use Rattle.delay.specs.DelayTables.{tables_of}
-use Rattle.delay.specs.EquationValues.{table_value, ValuesTo, values_start, values_next}
-use Rattle.laws.specs.Loops.{SoFar, begins, goes_on, ends}
-use borrow.Author.Rules.{rules}
+use Rattle.delay.specs.EquationValues.{values_start, values_next}
+use Rattle.laws.specs.Loops.{begins, goes_on, ends}
 use Rattle.delay.proofs.equation.values.Goals as goal
 
 pub value-requires : goal.value-requires

@@ -3,7 +3,6 @@ use Rattle.document.specs.Reader.{record_fault}
 use Rattle.model.specs.Sets.{used}
 use Rattle.delay.specs.AcceptedFlows.{not_refused, is_refused}
 use Rattle.delay.specs.FixedAnswers.{all_fixed_refused}
-use borrow.Author.Rules.{rules}
 use Rattle.delay.proofs.fixed.all_fixed.Goals as goal
 
 pub returns-then-refuses : goal.returns-then-refuses

@@ -4,7 +4,6 @@ use Prim.Native.Nat.{ℕ}
 use native.Mathlib.Omega.{arith}
 use lib.ListN.{get_or}
 use Rattle.document.specs.Delay.{joined}
-use borrow.Author.Rules.{rules}
 use Rattle.delay.proofs.fixed.bound_after.Goals as goal
 
 pub joined_bound-requires : goal.joined_bound-requires

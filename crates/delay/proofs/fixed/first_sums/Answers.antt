@@ -1,33 +1,20 @@
-use mathlib.Core.Path.{◌≡◌}
-use Prim.Native.Nat.{◌-◌, ◌<◌}
 use native.Mathlib.Nat.{le_trans}
 use native.Mathlib.Omega.{arith}
-use Rattle.delay.specs.FirstShares.{FirstSumsTo, packets_by, first_sums_start, first_sums_next, share_small, conflict_small}
-use Rattle.laws.specs.Loops.{SoFar, begins, goes_on, ends}
+use Rattle.delay.specs.FirstShares.{first_sums_start, first_sums_next, share_small, conflict_small}
+use Rattle.laws.specs.Loops.{begins, goes_on, ends}
 use borrow.Author.Rules.{rules}
 use Rattle.delay.proofs.fixed.first_sums.Goals as goal
-use Rattle.delay.proofs.fixed.first_sums.Goals.{After-packets_first-n, In-loop-l}
-
--- the loop takes only flows below k
-below : (c : In-loop-l) → c.loop-l.l < c.args.k
-below c = omega (arith, c.loop-l-test.true)
 
 pub packets_first-n-requires : goal.packets_first-n-requires
 packets_first-n-requires c =
     let o = c.requires.1 in
-    let l = c.loop-l.l in record { k_lt_most_flows = (search rules, omega (arith, below c)); nonzero = (o.deadline_pos, o.period_pos l (below c), o.bound_le l (below c)) }
-
--- the packets are those of l in k's window
-packets-of-k : (c : After-packets_first-n)
-    → let a = c.args in
-    c.packets_first-n.result ≡ packets_by a.period.now a.deadline.now a.bound.now a.k c.loop-l.l
-packets-of-k c = c.packets_first-n.ensures
+    let l = c.loop-l.l in record { k_lt_most_flows = (search rules, omega arith); nonzero = (o.deadline_pos, o.period_pos l c.loop-l-test.true, o.bound_le l c.loop-l-test.true) }
 
 pub work_of_packets-x-requires : goal.work_of_packets-x-requires
 work_of_packets-x-requires c =
     let o = c.requires.1 in
-    let n = packets-of-k c.before.before in
-    let h = below c.before.before.before in
+    let n = c.packets_first-n.ensures in
+    let h = c.loop-l-test.true in
     le_trans (conflict_small _ _ _ _ _ _ _ o h _ n) (share_small _ _ _ _ _ _ _ o h _ n)
 
 pub overflow_add-x : goal.overflow_add-x
@@ -37,7 +24,7 @@ overflow_add-x c =
 
 pub work_of_packets-w-requires : goal.work_of_packets-w-requires
 work_of_packets-w-requires c =
-    share_small _ _ _ _ _ _ _ c.requires.1 (below c.before.before.before.before.before.before) _ (packets-of-k c.before.before.before.before.before)
+    share_small _ _ _ _ _ _ _ c.requires.1 c.loop-l-test.true _ c.packets_first-n.ensures
 
 pub overflow_add-w : goal.overflow_add-w
 overflow_add-w c =
@@ -45,9 +32,9 @@ overflow_add-w c =
 
 pub loop-l-preserved : goal.loop-l-preserved
 loop-l-preserved c =
-    let h = below c.before.before.before.before.before.before.before in
+    let h = c.loop-l-test.true in
     goes_on h
-    (first_sums_next _ _ _ _ _ _ _ c.requires.1 h _ (packets-of-k c.before.before.before.before.before.before) _ _ _ _
+    (first_sums_next _ _ _ _ _ _ _ c.requires.1 h _ c.packets_first-n.ensures _ _ _ _
     c.loop-l.invariant.holds c.work_of_packets-x.ensures.0 c.work_of_packets-w.ensures.0)
 
 pub returns : goal.returns

@@ -1,11 +1,7 @@
 -- `first_sums`: both sums hold the shares of the flows so far. Assumes nothing beyond its `requires`.
-use mathlib.Core.Path.{◌≡◌}
-use Prim.Native.Nat.{◌-◌, ◌<◌}
-use native.Mathlib.Nat.{le_trans}
-use native.Mathlib.Omega.{arith}
-use Rattle.delay.specs.FirstShares.{FirstSumsTo, packets_by, first_sums_start, first_sums_next, share_small, conflict_small}
-use Rattle.laws.specs.Loops.{SoFar, begins, goes_on, ends}
-use borrow.Author.Rules.{rules}
+use Prim.Native.Nat.{◌-◌}
+use Rattle.delay.specs.FirstShares.{FirstSumsTo}
+use Rattle.laws.specs.Loops.{SoFar}
 use Rattle.delay.proofs.fixed.first_sums.Given as goal
 
 abbrev pub invariant-loop-l : goal.invariant-loop-l

@@ -9,7 +9,6 @@ use Rattle.laws.specs.Accepted.{accepted}
 use Rattle.laws.specs.Used.{used_flow}
 use Rattle.delay.specs.AcceptedFlows.{count_at_law}
 use Rattle.delay.specs.FixedAnswers.{fixed_bounds_made}
-use borrow.Author.Rules.{rules}
 use Rattle.delay.proofs.fixed.fixed_bounds_at.Goals as goal
 use Rattle.delay.proofs.fixed.fixed_bounds_at.Goals.{Start}
 

@@ -6,7 +6,6 @@ use Rattle.document.specs.Reader.{record_fault}
 use Rattle.model.specs.Sets.{used}
 use Rattle.delay.specs.FixedAnswers.{fixed_fault_of, fixed_refused, fixed_none, fixed_given}
 use Rattle.delay.specs.VerdictAnswers.{passed_by, refused_by, fault_refused}
-use borrow.Author.Rules.{rules}
 use Rattle.delay.proofs.fixed.fixed_bounds_of.Goals as goal
 use Rattle.delay.proofs.fixed.fixed_bounds_of.Goals.{Else-refuses}
 

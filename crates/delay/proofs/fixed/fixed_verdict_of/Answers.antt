@@ -7,7 +7,6 @@ use Rattle.model.specs.Sets.{used}
 use Rattle.laws.specs.Accepted.{accepted}
 use Rattle.delay.specs.FixedAnswers.{fixed_fault_of, fixed_verdict_made, fixed_verdict_refused}
 use Rattle.delay.specs.VerdictAnswers.{passed_by, refused_by}
-use borrow.Author.Rules.{rules}
 use Rattle.delay.proofs.fixed.fixed_verdict_of.Goals as goal
 use Rattle.delay.proofs.fixed.fixed_verdict_of.Goals.{Else-refuses}
 

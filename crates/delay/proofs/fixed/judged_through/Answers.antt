@@ -1,6 +1,5 @@
 -- `judged_through`: flows 0 to k. Assumes nothing beyond its `requires`.
 use mathlib.Core.Path.{refl}
-use borrow.Author.Rules.{rules}
 use Rattle.delay.proofs.fixed.judged_through.Goals as goal
 
 pub returns : goal.returns

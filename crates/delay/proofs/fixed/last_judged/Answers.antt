@@ -1,6 +1,5 @@
 -- `last_judged`: flow k's bound is written and k is counted. Assumes nothing beyond its `requires`.
 use mathlib.Core.Path.{refl}
-use borrow.Author.Rules.{rules}
 use Rattle.delay.proofs.fixed.last_judged.Goals as goal
 
 pub returns : goal.returns

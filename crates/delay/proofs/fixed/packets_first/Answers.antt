@@ -3,7 +3,6 @@ use mathlib.Core.Path.{ap, ◌∙◌}
 use Prim.Native.Nat.{ℕ}
 use lib.ListN.{get_or}
 use Rattle.document.specs.Fixed.{rounded_up}
-use borrow.Author.Rules.{rules}
 use Rattle.delay.proofs.fixed.packets_first.Goals as goal
 
 pub returns : goal.returns

@@ -1,6 +1,5 @@
 -- `rounded_up`: the definition's own sum and quotient, which fit 32 bits. Assumes nothing beyond its `requires`.
 use mathlib.Core.Path.{refl}
-use borrow.Author.Rules.{rules}
 use Rattle.delay.proofs.fixed.rounded_up.Goals as goal
 
 pub returns : goal.returns

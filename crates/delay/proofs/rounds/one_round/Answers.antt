@@ -2,8 +2,7 @@ use mathlib.Core.Path.{◌≡◌}
 use Prim.Native.Nat.{◌-◌, ◌≤◌, ◌<◌}
 use native.Mathlib.Omega.{arith}
 use lib.ListN.{get_or}
-use Rattle.delay.specs.DelayTables.{tables_of}
-use Rattle.delay.specs.OneRound.{RoundUnderway, underway_start, underway_done, underway_falls, underway_stays}
+use Rattle.delay.specs.OneRound.{underway_start, underway_done, underway_falls, underway_stays}
 use borrow.Author.Rules.{rules}
 use Rattle.delay.proofs.rounds.one_round.Goals as goal
 

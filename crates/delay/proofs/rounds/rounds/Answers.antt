@@ -1,15 +1,13 @@
 use mathlib.Core.Path.{refl, sym}
 use mathlib.Core.Bool.{true, false}
-use Prim.Native.Nat.{◌-◌, ◌<◌}
+use Prim.Native.Nat.{◌<◌}
 use native.Mathlib.Omega.{arith}
 use Rattle.model.specs.Sets.{used}
-use Rattle.document.specs.Delay.{most_rounds}
 use Rattle.laws.specs.Rounds.{accepted_fits}
 use Rattle.delay.specs.EquationValues.{sums_fit_carried}
-use Rattle.delay.specs.OneRound.{list_of_slack, SlackWithin}
+use Rattle.delay.specs.OneRound.{list_of_slack}
 use Rattle.delay.specs.RoundsReached.{RoundsGoing, going_start, going_next, most_small, deadlines_carried, zero_slack}
 use Rattle.laws.specs.Accepted.{ones_pos}
-use borrow.Author.Rules.{rules}
 use Rattle.delay.proofs.rounds.rounds.Goals as goal
 use Rattle.delay.proofs.rounds.rounds.Goals.{In-loop-going}
 
@@ -23,18 +21,18 @@ pub loop-going-init : goal.loop-going-init
 unfolding used
 loop-going-init c =
     let u = used c.args.s in
-    (zero_slack c.args.deadline.now c.args.s.count, rw (deadlines_carried u c.args.deadline.now c.requires.tables_hold_is.1.entries) (going_start u))
+    (zero_slack c.args.deadline.now c.args.s.count, rw (deadlines_carried u c.args.deadline.now c.requires.deadlines_of.entries) (going_start u))
 
 pub one_round-r-requires : goal.one_round-r-requires
 unfolding used
 one_round-r-requires c =
     let a = c.requires.accepted in
-    let m : 0 < c.ways-m.result = omega (arith, ones_pos c.args.s.map.0 a.some_channel) in record { n_le_most_flows = (a.count_le, m, c.loop-going.invariant.0); sums_fit_to = sums_fit_carried (used c.args.s) a.count_le _ c.requires.tables_hold_is.0 }
+    let m : 0 < c.ways-m.result = omega (arith, ones_pos c.args.s.map.0 a.some_channel) in record { n_le_most_flows = (a.count_le, m, c.loop-going.invariant.0); sums_fit_to = sums_fit_carried (used c.args.s) a.count_le _ c.requires.tables_hold_is }
 
 pub overflow_add-count : goal.overflow_add-count
 unfolding used
 overflow_add-count c =
-    omega (arith, (still c.before.before.before).1, most_small (used c.args.s) c.requires.accepted.count_le c.requires.tables_hold_is.1.small)
+    omega (arith, (still c.before.before.before).1, most_small (used c.args.s) c.requires.accepted.count_le c.requires.deadlines_of.small)
 
 pub loop-going-smaller : goal.loop-going-smaller
 unfolding used
@@ -46,11 +44,11 @@ loop-going-preserved c =
     let a = c.requires.accepted in
     let u = used c.args.s in
     let r = c.one_round-r.ensures in (
-      r.1,
+      r.slack_within,
       going_next u (accepted_fits u a) c.loop-going.count _ _ _ (still c.before.before.before)
-          (r.0 u record {
-            tables = c.requires.tables_hold_is.0;
-            deadlines = c.requires.tables_hold_is.1.entries;
+          (r.round_for u record {
+            tables = c.requires.tables_hold_is;
+            deadlines = c.requires.deadlines_of.entries;
             count = refl;
             channels = sym c.ways-m.ensures;
             most = a.count_le;

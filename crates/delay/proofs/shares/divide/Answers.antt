@@ -1,8 +1,6 @@
-use Prim.Native.Nat.{◌-◌}
 use native.Mathlib.Omega.{arith}
-use Rattle.delay.specs.ShareRows.{Divided, divided_start, divided_next, of_period}
-use Rattle.laws.specs.Loops.{SoFar, begins, goes_on, ends}
-use borrow.Author.Rules.{rules}
+use Rattle.delay.specs.ShareRows.{divided_start, divided_next, of_period}
+use Rattle.laws.specs.Loops.{begins, goes_on, ends}
 use Rattle.delay.proofs.shares.divide.Goals as goal
 
 pub loop-l-preserved : goal.loop-l-preserved

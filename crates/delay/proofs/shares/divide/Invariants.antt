@@ -1,9 +1,7 @@
 -- `divide`: the quotients and remainders of the periods so far. Assumes nothing beyond its `requires`.
 use Prim.Native.Nat.{◌-◌}
-use native.Mathlib.Omega.{arith}
-use Rattle.delay.specs.ShareRows.{Divided, divided_start, divided_next, of_period}
-use Rattle.laws.specs.Loops.{SoFar, begins, goes_on, ends}
-use borrow.Author.Rules.{rules}
+use Rattle.delay.specs.ShareRows.{Divided}
+use Rattle.laws.specs.Loops.{SoFar}
 use Rattle.delay.proofs.shares.divide.Given as goal
 
 abbrev pub invariant-loop-l : goal.invariant-loop-l

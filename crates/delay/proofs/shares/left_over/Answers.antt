@@ -1,5 +1,4 @@
 -- `left_over`: the code is the definition where there is a period. Assumes nothing.
-use borrow.Author.Rules.{rules}
 use borrow.Author.Tests.{eq-eqb, ne_eqb}
 use Rattle.delay.proofs.shares.left_over.Goals as goal
 

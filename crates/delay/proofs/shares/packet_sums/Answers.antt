@@ -1,8 +1,7 @@
 use mathlib.Core.Path.{◌≡◌, sym, ap, ap₂, ◌∙◌}
-use Prim.Native.Nat.{ℕ, ◌+◌, ◌-◌, ◌*◌, ◌≤◌}
+use Prim.Native.Nat.{ℕ, ◌+◌, ◌*◌}
 use native.Mathlib.Omega.{arith}
 use lib.ListN.{get_or}
-use Rattle.model.specs.Sums.{sum_to}
 use Rattle.laws.specs.SumLaws.{sum_next, sum_zero}
 use Rattle.delay.specs.PairGrids.{pair_at}
 use borrow.Author.Rules.{rules}
@@ -16,7 +15,6 @@ loop-l-init c = (
   search rules,
   sym (sum_zero _ 0 (λ j h. omega arith)),
   sym (sum_zero _ 0 (λ j h. omega arith)),
-
 )
 
 pub times-x-requires : goal.times-x-requires

@@ -1,16 +1,13 @@
 use mathlib.Core.Path.{sym, ap, ◌∙◌}
-use Prim.Native.Nat.{◌-◌, ◌≤◌}
 use native.Mathlib.Nat.{lt_of_le_of_lt, le_trans, le_of_eq}
 use native.Mathlib.Omega.{arith}
 use lib.Dec.{lit<}
 use Rattle.model.specs.declared.kinds.Flow.{Flow}
-use Rattle.model.specs.Sets.{used, work}
+use Rattle.model.specs.Sets.{work}
 use Rattle.laws.specs.Used.{used_flow}
 use Rattle.delay.specs.AcceptedFlows.{good_at, count_at_law}
-use Rattle.delay.specs.ShareRows.{FlowNumbersTo, flow_numbers_next}
-use Rattle.laws.specs.Loops.{SoFar, begins, goes_on, ends}
-use borrow.Author.Rules.{rules}
-use Rattle.model.specs.Limits.{most_flows}
+use Rattle.delay.specs.ShareRows.{flow_numbers_next}
+use Rattle.laws.specs.Loops.{begins, goes_on, ends}
 use Rattle.laws.specs.Accepted.{work_small}
 use Rattle.delay.proofs.shares.periods_deadlines_work.Goals as goal
 

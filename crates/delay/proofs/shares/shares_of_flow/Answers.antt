@@ -3,7 +3,6 @@ use mathlib.Core.Path.{◌∙◌}
 use lib.ListN.{get_or}
 use Rattle.delay.specs.PairGrids.{pair_at}
 use Rattle.delay.specs.ShareRows.{own_zero_from, own_row, own_whole}
-use borrow.Author.Rules.{rules}
 use Rattle.delay.proofs.shares.shares_of_flow.Goals as goal
 
 pub returns : goal.returns
@@ -15,7 +14,9 @@ returns c =
     let whole = own_whole a.k a.n a.deadline a.period.now _ _ _ _ p.k_lt_n.0 p.k_lt_n.1 d s in
     let zero = own_zero_from a.k a.n a.deadline a.period.now _ _ _ _ p.k_lt_n.0 p.k_lt_n.1 d s in
     let row = own_row a.k a.n a.deadline a.period.now _ _ _ _ p.k_lt_n.0 p.k_lt_n.1 d in
-    let w = c.packet_sums.ensures in let held = (
-      (zero, row),
-      (w.0 ∙ whole (λ l. pair_at a.conflict.now a.k l), (w.1.0 ∙ whole (λ l. get_or a.work.now l 0), w.1.1)),
-    ) in record { zero_from = held.0; conflict_value = held.1; work_value = held.2 }
+    let w = c.packet_sums.ensures in
+    record {
+      zero_from = (zero, row);
+      conflict_value = w.conflict_value ∙ whole (λ l. pair_at a.conflict.now a.k l);
+      work_value = (w.work_value.0 ∙ whole (λ l. get_or a.work.now l 0), w.work_value.1);
+    }

@@ -1,8 +1,5 @@
-use Prim.Native.Nat.{◌-◌}
-use Rattle.delay.specs.ShareRows.{ZeroFrom, SharesTo}
 use Rattle.delay.specs.DelayTables.{zero_from_start, shares_next}
-use Rattle.laws.specs.Loops.{SoFar, begins, goes_on, ends}
-use borrow.Author.Rules.{rules}
+use Rattle.laws.specs.Loops.{begins, goes_on, ends}
 use Rattle.delay.proofs.shares.shares_of_flows.Goals as goal
 
 pub shares_of_flow-sums-requires : goal.shares_of_flow-sums-requires
@@ -15,7 +12,7 @@ loop-k-preserved c =
     let w = c.loop-k in
     let h = c.loop-k-test.true in
     let r = c.shares_of_flow-sums.ensures in
-    goes_on h (r.0.0, shares_next _ _ _ _ _ _ _ _ _ _ _ _ h c.requires.n_le_most_flows.0 w.invariant.holds.1 r.0.1 r.1.0 r.1.1.0 r.1.1.1)
+    goes_on h (r.zero_from.0, shares_next _ _ _ _ _ _ _ _ _ _ _ _ h c.requires.n_le_most_flows.0 w.invariant.holds.1 r.zero_from.1 r.conflict_value r.work_value.0 r.work_value.1)
 
 pub loop-k-init : goal.loop-k-init
 loop-k-init c = begins (zero_from_start _, c.requires.shares_to)

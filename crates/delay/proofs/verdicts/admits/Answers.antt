@@ -1,17 +1,15 @@
-use mathlib.Core.Path.{◌≡◌, sym, ap, ap₂, ◌∙◌}
+use mathlib.Core.Path.{sym, ap, ap₂, ◌∙◌}
 use mathlib.Core.Bool.{Bool, ◌&&◌}
-use Prim.Native.Nat.{◌-◌, ◌≤◌, ◌<◌}
+use Prim.Native.Nat.{◌<◌}
 use lib.Dec.{leb}
 use lib.ListN.{get_or}
 use Rattle.model.specs.declared.kinds.Flow.{Flow}
-use Rattle.model.specs.Sums.{all_to}
 use Rattle.model.specs.Sets.{used}
-use Rattle.document.specs.Delay.{deadline, admits}
+use Rattle.document.specs.Delay.{admits}
 use Rattle.laws.specs.Used.{used_flow}
 use Rattle.delay.specs.VerdictAnswers.{all_zero, all_next}
-use Rattle.laws.specs.Loops.{SoFar, begins, goes_on, ends}
+use Rattle.laws.specs.Loops.{begins, goes_on, ends}
 use borrow.Author.Rules.{rules}
-use Rattle.model.specs.Limits.{most_flows}
 use Rattle.delay.proofs.verdicts.admits.Goals as goal
 
 pub loop-k-init : goal.loop-k-init

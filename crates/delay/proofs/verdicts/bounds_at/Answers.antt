@@ -13,7 +13,6 @@ use Rattle.laws.specs.Accepted.{accepted}
 use Rattle.laws.specs.Used.{used_flow}
 use Rattle.delay.specs.AcceptedFlows.{count_at_law}
 use Rattle.delay.specs.VerdictAnswers.{basic_entry, tight_entry, fault_given, bounds_made}
-use borrow.Author.Rules.{rules}
 use Rattle.model.specs.Limits.{most_flows}
 use Rattle.delay.proofs.verdicts.bounds_at.Goals as goal
 use Rattle.delay.proofs.verdicts.bounds_at.Goals.{Start}

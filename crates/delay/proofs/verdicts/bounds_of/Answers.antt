@@ -5,7 +5,6 @@ use Rattle.model.specs.Refusals.{good, refused_bounds}
 use Rattle.document.specs.Reader.{record_fault}
 use Rattle.model.specs.Sets.{used}
 use Rattle.delay.specs.VerdictAnswers.{bounds_refused, bounds_none, bounds_given, passed_by, refused_by, fault_refused}
-use borrow.Author.Rules.{rules}
 use Rattle.delay.proofs.verdicts.bounds_of.Goals as goal
 use Rattle.delay.proofs.verdicts.bounds_of.Goals.{Else-refuses}
 

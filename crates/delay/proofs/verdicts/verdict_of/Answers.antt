@@ -6,7 +6,6 @@ use Rattle.document.specs.Reader.{record_fault}
 use Rattle.model.specs.Sets.{used}
 use Rattle.laws.specs.Accepted.{accepted}
 use Rattle.delay.specs.VerdictAnswers.{verdict_made, verdict_refused, passed_by, refused_by}
-use borrow.Author.Rules.{rules}
 use Rattle.delay.proofs.verdicts.verdict_of.Goals as goal
 use Rattle.delay.proofs.verdicts.verdict_of.Goals.{Else-refuses}
 
