@@ -1,30 +1,19 @@
 -- `bounds_by_tables`: the values without slack are the basic bounds, and those at the last list the tightened ones. Assumes nothing beyond its `requires`.
-use Prim.Native.Nat.{◌≤◌, ◌<◌}
+use Prim.Native.Nat.{◌<◌}
 use native.Mathlib.Omega.{arith}
 use Rattle.model.specs.Sets.{used}
-use Rattle.delay.specs.DelayTables.{Tables, tables_of}
-use Rattle.delay.specs.EquationValues.{SumsFitTo, sums_fit_carried}
+use Rattle.delay.specs.DelayTables.{tables_of}
+use Rattle.delay.specs.EquationValues.{sums_fit_carried}
 use Rattle.delay.specs.BoundsReached.{basic_carried, tight_carried, values_ext}
 use Rattle.laws.specs.Accepted.{ones_pos}
-use Rattle.model.specs.Limits.{most_flows}
 use Rattle.delay.proofs.bounds_by_tables.Goals as goal
-use Rattle.delay.proofs.bounds_by_tables.Goals.{After-ways-m, Start}
-
-abbrev tables : (c : Start) → Tables
-tables c =
-    tables_of c.args.conflict.now c.args.remainder.now c.args.work.now c.args.whole_conflict.now c.args.whole_work.now
-
--- what the values ask for
-asked : (c : After-ways-m) → ((c.args.s.count ≤ most_flows) × (0 < c.ways-m.result)) × SumsFitTo (tables c.before.before) c.args.s.count
-unfolding used
-asked c =
-    let a = c.requires.accepted.0 in
-    let m : 0 < c.ways-m.result = omega (arith, ones_pos c.args.s.map.0 a.some_channel) in
-    ((a.count_le, m), sums_fit_carried (used c.args.s) a.count_le (tables c.before.before) c.requires.tables_hold_is)
 
 pub values-basic-requires : goal.values-basic-requires
 unfolding used
-values-basic-requires c = let held = asked c.before.before in record { n_le_most_flows = held.0; sums_fit_to = held.1 }
+values-basic-requires c =
+    let a = c.requires.accepted.0 in
+    let m : 0 < c.ways-m.result = omega (arith, ones_pos c.args.s.map.0 a.some_channel) in
+    record { n_le_most_flows = (a.count_le, m); sums_fit_to = sums_fit_carried (used c.args.s) a.count_le _ c.requires.tables_hold_is }
 
 pub rounds-end-requires : goal.rounds-end-requires
 unfolding used
@@ -33,13 +22,16 @@ rounds-end-requires c =
 
 pub values-tightened-requires : goal.values-tightened-requires
 unfolding used
-values-tightened-requires c = let held = asked c.before.before.before.before.before.before in record { n_le_most_flows = held.0; sums_fit_to = held.1 }
+values-tightened-requires c =
+    let a = c.requires.accepted.0 in
+    let m : 0 < c.ways-m.result = omega (arith, ones_pos c.args.s.map.0 a.some_channel) in
+    record { n_le_most_flows = (a.count_le, m); sums_fit_to = sums_fit_carried (used c.args.s) a.count_le _ c.requires.tables_hold_is }
 
 pub returns : goal.returns
 unfolding used
 returns c =
     let u = used c.args.s in
-    let t = tables c.before.before.before.before.before.before.before.before.before.before in
+    let t = tables_of c.args.conflict.now c.args.remainder.now c.args.work.now c.args.whole_conflict.now c.args.whole_work.now in
     let n = c.requires.accepted.0.count_le in
     let o = c.requires.tables_hold_is in
     let e = c.ways-m.ensures in

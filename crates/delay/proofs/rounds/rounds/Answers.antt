@@ -1,5 +1,5 @@
 use mathlib.Core.Path.{refl, sym}
-use mathlib.Core.Bool.{true, false}
+use mathlib.Core.Bool.{false}
 use Prim.Native.Nat.{◌<◌}
 use native.Mathlib.Omega.{arith}
 use Rattle.model.specs.Sets.{used}
@@ -9,13 +9,6 @@ use Rattle.delay.specs.OneRound.{list_of_slack}
 use Rattle.delay.specs.RoundsReached.{RoundsGoing, going_start, going_next, most_small, deadlines_carried, zero_slack}
 use Rattle.laws.specs.Accepted.{ones_pos}
 use Rattle.delay.proofs.rounds.rounds.Goals as goal
-use Rattle.delay.proofs.rounds.rounds.Goals.{In-loop-going}
-
--- in a turn the rounds go on
-still : (c : In-loop-going)
-    → RoundsGoing (used c.args.s) true c.loop-going.count
-    (list_of_slack c.args.deadline.now c.loop-going.slack c.args.s.count)
-still c = rw c.loop-going-test.true at c.loop-going.invariant.1
 
 pub loop-going-init : goal.loop-going-init
 unfolding used
@@ -32,11 +25,14 @@ one_round-r-requires c =
 pub overflow_add-count : goal.overflow_add-count
 unfolding used
 overflow_add-count c =
-    omega (arith, (still c.before.before.before).1, most_small (used c.args.s) c.requires.accepted.count_le c.requires.deadlines_of.small)
+    let g = rw c.loop-going-test.true at c.loop-going.invariant.1 in
+    omega (arith, g.1, most_small (used c.args.s) c.requires.accepted.count_le c.requires.deadlines_of.small)
 
 pub loop-going-smaller : goal.loop-going-smaller
 unfolding used
-loop-going-smaller c = omega (arith, (still c.before.before.before).1)
+loop-going-smaller c =
+    let g = rw c.loop-going-test.true at c.loop-going.invariant.1 in
+    omega (arith, g.1)
 
 pub loop-going-preserved : goal.loop-going-preserved
 unfolding used
@@ -45,7 +41,7 @@ loop-going-preserved c =
     let u = used c.args.s in
     let r = c.one_round-r.ensures in (
       r.slack_within,
-      going_next u (accepted_fits u a) c.loop-going.count _ _ _ (still c.before.before.before)
+      going_next u (accepted_fits u a) c.loop-going.count _ _ _ (rw c.loop-going-test.true at c.loop-going.invariant.1)
           (r.round_for u record {
             tables = c.requires.tables_hold_is;
             deadlines = c.requires.deadlines_of.entries;
