@@ -13,8 +13,8 @@ loop-st-init g c = (c.fresh-st.ensures, refl)
 pub overflow_add-parts : goal.overflow_add-parts
 overflow_add-parts g c =
     let t : Turn (used c.args.set) c.args.hyper c.loop-st.parts c.loop-st.st c.superframe_part-part.result.state =
-        one_more (used c.args.set) c.requires.0 c.args.hyper c.requires.1 _ _ c.loop-st.invariant.0 c.loop-st-test.true _ c.loop-st.invariant.1 _
-        (ap (λ (x : Part). x.state) c.superframe_part-part.ensures.value) in
+    one_more (used c.args.set) c.requires.0 c.args.hyper c.requires.1 _ _ c.loop-st.invariant.0 c.loop-st-test.true _ c.loop-st.invariant.1 _
+    (ap (λ (x : Part). x.state) c.superframe_part-part.ensures.value) in
     let few = t.few in
     search rules
 
@@ -24,9 +24,11 @@ loop-st-smaller g c =
     (ap (λ (x : Part). x.state) c.superframe_part-part.ensures.value)).nearer
 
 pub loop-st-preserved : goal.loop-st-preserved
-loop-st-preserved g c =
-    ((one_more (used c.args.set) c.requires.0 c.args.hyper c.requires.1 _ _ c.loop-st.invariant.0 c.loop-st-test.true _ c.loop-st.invariant.1 _
-    (ap (λ (x : Part). x.state) c.superframe_part-part.ensures.value)).state, search rules)
+loop-st-preserved g c = (
+  (one_more (used c.args.set) c.requires.0 c.args.hyper c.requires.1 _ _ c.loop-st.invariant.0 c.loop-st-test.true _ c.loop-st.invariant.1 _
+      (ap (λ (x : Part). x.state) c.superframe_part-part.ensures.value)).state,
+  search rules,
+)
 
 pub returns : goal.returns
 returns g c = all_parts (used c.args.set) c.requires.0 c.args.hyper c.requires.1 _ _ c.loop-st.invariant.0 c.loop-st-test.false
