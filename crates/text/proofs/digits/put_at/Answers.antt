@@ -1,5 +1,5 @@
 -- `put_at` stores the byte, and a store beyond the end changes nothing. Assumes nothing.
-use Rattle.std.proofs.Common.{sym, rules}
+use Rattle.std.proofs.Common.{sym}
 use lib.Seq.{set_out}
 use Rattle.text.proofs.digits.put_at.Goals as goal
 

@@ -1,6 +1,6 @@
-use Rattle.std.proofs.Common.{◌≡◌, ◌≤◌, length, sym, arith, rules}
+use Rattle.std.proofs.Common.{sym, arith, rules}
 use Rattle.document.specs.Text.{decimal}
-use Rattle.text.specs.DigitsPut.{sets_out, DigitsLeft, digits_start, digits_left, digits_more, digits_done}
+use Rattle.text.specs.DigitsPut.{sets_out, digits_start, digits_left, digits_more, digits_done}
 use Rattle.text.proofs.digits.put_digits.Goals as goal
 
 pub returns-then-out-at : goal.returns-then-out-at

@@ -1,8 +1,8 @@
 -- `put_digits` stores the last digit of what is left, each time one place before: what is left, stored from `at` on, gives the whole.
 -- Beyond the end nothing is stored. The measure is what is left of the number. Assumes nothing.
-use Rattle.std.proofs.Common.{◌≡◌, ◌≤◌, length, sym, arith, rules}
+use Rattle.std.proofs.Common.{◌≡◌, ◌≤◌, length}
 use Rattle.document.specs.Text.{decimal}
-use Rattle.text.specs.DigitsPut.{sets_out, DigitsLeft, digits_start, digits_left, digits_more, digits_done}
+use Rattle.text.specs.DigitsPut.{DigitsLeft}
 use Rattle.text.proofs.digits.put_digits.Given as goal
 
 abbrev pub invariant-loop-n : goal.invariant-loop-n

@@ -1,5 +1,5 @@
 -- `width`: a number of more than five digits has five more than what is left without its last five. Assumes nothing.
-use Rattle.std.proofs.Common.{arith, rules}
+use Rattle.std.proofs.Common.{arith}
 use Rattle.text.specs.Decimals.{size_five}
 use Rattle.text.proofs.digits.width.Goals as goal
 

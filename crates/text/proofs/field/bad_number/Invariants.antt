@@ -1,8 +1,7 @@
 -- `bad_number` goes from field to field, each after its tab; what is left of the line says the rest (`FieldsSoFar`). Each field takes two bytes or
 -- more, so the count stays within its width. The measure is what is left of the text. Assumes nothing beyond its `requires`.
-use Rattle.std.proofs.Common.{◌-◌, length, sym, ap, ◌∙◌, arith, rules}
-use Rattle.model.specs.Refusals.{number_says}
-use Rattle.text.specs.FieldSearch.{NextField, FieldsSoFar, field_read, fields_start, fields_inside, fields_bad, fields_more, fields_done}
+use Rattle.std.proofs.Common.{◌-◌, length}
+use Rattle.text.specs.FieldSearch.{FieldsSoFar}
 use Rattle.text.proofs.field.bad_number.Given as goal
 
 abbrev pub invariant-loop-field : goal.invariant-loop-field

@@ -1,5 +1,5 @@
 -- `first_bad` asks whether there is a field at all, then for the word, and then goes on where it ends. Assumes nothing.
-use Rattle.std.proofs.Common.{Bool, not, ◌||◌, ltb, sym, ap, ◌∙◌, rules, eq-eqb, ne_eqb}
+use Rattle.std.proofs.Common.{Bool, not, ◌||◌, ltb, sym, ap, ◌∙◌, eq-eqb, ne_eqb}
 use Rattle.document.specs.Text.{set_word}
 use Rattle.document.specs.BadField.{breaks_first, first_breaking}
 use Rattle.text.specs.FieldSearch.{word_ends, breaking_word, breaking_numbers}

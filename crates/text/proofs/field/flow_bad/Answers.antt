@@ -1,5 +1,5 @@
 -- `flow_bad` asks for the word, and then goes on where it ends. Assumes nothing.
-use Rattle.std.proofs.Common.{not, sym, ap, ◌∙◌, arith, rules}
+use Rattle.std.proofs.Common.{not, sym, ap, ◌∙◌, arith}
 use Rattle.document.specs.Text.{flow_word}
 use Rattle.document.specs.BadField.{breaks_flow, first_breaking}
 use Rattle.text.specs.FieldSearch.{WordEnds, word_ends, breaking_word, breaking_numbers}
@@ -18,7 +18,8 @@ bad_number-requires c = (after-word c).ends
 
 pub returns-then-is_word : goal.returns-then-is_word
 returns-then-is_word c =
-    c.bad_number.ensures ∙ ap (first_breaking breaks_flow 2) (after-word c.before).others
+    let w = word_ends c.args.s.now flow_word c.args.at (sym c.is_word.ensures ∙ c.if-is_word.true) in
+    c.bad_number.ensures ∙ ap (first_breaking breaks_flow 2) w.others
     ∙ breaking_numbers breaks_flow _ (ap not (sym c.is_word.ensures ∙ c.if-is_word.true))
 
 pub returns-else-is_word : goal.returns-else-is_word

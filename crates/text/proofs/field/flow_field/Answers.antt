@@ -1,5 +1,5 @@
 -- `flow_field` is `field_of` over the line's bad field and the row's repeat. Assumes nothing.
-use Rattle.std.proofs.Common.{◌∙◌, rules}
+use Rattle.std.proofs.Common.{◌∙◌}
 use Rattle.text.proofs.field.flow_field.Goals as goal
 
 pub returns : goal.returns

@@ -1,5 +1,5 @@
-use Rattle.std.proofs.Common.{ℕ, ◌-◌, eqb, length, sym, ap, ◌∙◌, arith, rules}
-use Rattle.text.specs.Rows.{Spelling, spelling_start, spelling_more, spelling_inside}
+use Rattle.std.proofs.Common.{ℕ, eqb, sym, ap, ◌∙◌, arith}
+use Rattle.text.specs.Rows.{spelling_start, spelling_more, spelling_inside}
 use Rattle.text.specs.FieldSearch.{spelling_word, spelling_other}
 use Rattle.text.proofs.field.is_word.Goals as goal
 

@@ -1,8 +1,7 @@
 -- `is_word` compares the word byte by byte; what is left of it says the rest (`Spelling`), and then the field must end.
 -- The measure is what is left of the word. Assumes nothing.
-use Rattle.std.proofs.Common.{ℕ, ◌-◌, eqb, length, sym, ap, ◌∙◌, arith, rules}
-use Rattle.text.specs.Rows.{Spelling, spelling_start, spelling_more, spelling_inside}
-use Rattle.text.specs.FieldSearch.{spelling_word, spelling_other}
+use Rattle.std.proofs.Common.{◌-◌, length}
+use Rattle.text.specs.Rows.{Spelling}
 use Rattle.text.proofs.field.is_word.Given as goal
 
 abbrev pub invariant-loop-i : goal.invariant-loop-i

@@ -1,5 +1,5 @@
 -- `repeat_in` is `repeat_at` over the row's nodes; a row of fewer than four numbers has none. Assumes nothing.
-use Rattle.std.proofs.Common.{◌≡◌, ◌∙◌, arith, rules}
+use Rattle.std.proofs.Common.{◌≡◌, ◌∙◌, arith}
 use Rattle.text.specs.RowFaults.{row_repeat}
 use Rattle.text.specs.FieldSearch.{repeat_fits, repeat_short}
 use Rattle.text.proofs.field.repeat_in.Goals as goal

@@ -1,5 +1,5 @@
 -- `begins` looks at the byte that `drop` leaves in front, and `drop` leaves none beyond the end. Assumes nothing.
-use Rattle.std.proofs.Common.{sym, ◌∙◌, rules}
+use Rattle.std.proofs.Common.{sym, ◌∙◌}
 use Rattle.text.specs.Rows.{begins_here, begins_beyond}
 use Rattle.text.proofs.line.begins.Goals as goal
 

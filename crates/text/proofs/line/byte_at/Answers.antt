@@ -1,5 +1,5 @@
 -- `byte_at` is the byte at the place, since a list gives 0 beyond its end. Assumes nothing.
-use Rattle.std.proofs.Common.{sym, rules}
+use Rattle.std.proofs.Common.{sym}
 use lib.ListN.{get_or-eq_default}
 use Rattle.text.proofs.line.byte_at.Goals as goal
 

@@ -1,5 +1,5 @@
-use Rattle.std.proofs.Common.{◌-◌, length, sym, ◌∙◌, arith, rules}
-use Rattle.text.specs.Rows.{Spelling, spelling_start, spelling_more, spelling_inside, spelling_refused, spelling_row}
+use Rattle.std.proofs.Common.{sym, ◌∙◌, arith}
+use Rattle.text.specs.Rows.{spelling_start, spelling_more, spelling_inside, spelling_refused, spelling_row}
 use Rattle.text.proofs.line.line_at.Goals as goal
 
 pub loop-i-init : goal.loop-i-init

@@ -1,7 +1,7 @@
 -- `line_at` compares the word byte by byte; what is left of it says the rest (`Spelling`), and then the line is one of numbers.
 -- The measure is what is left of the word. Assumes nothing.
-use Rattle.std.proofs.Common.{◌-◌, length, sym, ◌∙◌, arith, rules}
-use Rattle.text.specs.Rows.{Spelling, spelling_start, spelling_more, spelling_inside, spelling_refused, spelling_row}
+use Rattle.std.proofs.Common.{◌-◌, length}
+use Rattle.text.specs.Rows.{Spelling}
 use Rattle.text.proofs.line.line_at.Given as goal
 
 abbrev pub invariant-loop-i : goal.invariant-loop-i

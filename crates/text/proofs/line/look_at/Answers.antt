@@ -1,5 +1,5 @@
 -- `look_at` looks at the byte that `drop` leaves in front, and `drop` leaves none beyond the end. Assumes nothing.
-use Rattle.std.proofs.Common.{sym, ◌∙◌, lit≤, rules}
+use Rattle.std.proofs.Common.{sym, ◌∙◌, lit≤}
 use Rattle.text.specs.DigitsRead.{look_here, look_beyond}
 use Rattle.text.proofs.line.look_at.Goals as goal
 

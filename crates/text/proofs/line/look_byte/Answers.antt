@@ -1,5 +1,5 @@
 -- `look_byte` asks the tests of `look_byte` in their order. Assumes nothing.
-use Rattle.std.proofs.Common.{arith, lit≤, rules, le-ltb, lt-ltb, eq-eqb, ne_eqb}
+use Rattle.std.proofs.Common.{arith, lit≤, le-ltb, lt-ltb, eq-eqb, ne_eqb}
 use Rattle.text.specs.Places.{look_byte}
 use Rattle.text.proofs.line.look_byte.Goals as goal
 

@@ -1,5 +1,5 @@
-use Rattle.std.proofs.Common.{◌-◌, length, sym, ◌∙◌, arith, rules}
-use Rattle.text.specs.DigitsRead.{DigitsSoFar, digits_start, digits_inside, digits_room, digits_more, digits_many, digits_large, digits_other, digits_stop}
+use Rattle.std.proofs.Common.{sym, ◌∙◌, arith}
+use Rattle.text.specs.DigitsRead.{digits_start, digits_inside, digits_room, digits_more, digits_many, digits_large, digits_other, digits_stop}
 use Rattle.text.proofs.line.number_at.Goals as goal
 
 pub loop-d-init : goal.loop-d-init

@@ -1,7 +1,7 @@
 -- `number_at` goes over the digits of the field, five at most, and carries their value; what is left of the field says the rest (`DigitsSoFar`).
 -- The measure is what is left of the text. Assumes nothing.
-use Rattle.std.proofs.Common.{◌-◌, length, sym, ◌∙◌, arith, rules}
-use Rattle.text.specs.DigitsRead.{DigitsSoFar, digits_start, digits_inside, digits_room, digits_more, digits_many, digits_large, digits_other, digits_stop}
+use Rattle.std.proofs.Common.{◌-◌, length}
+use Rattle.text.specs.DigitsRead.{DigitsSoFar}
 use Rattle.text.proofs.line.number_at.Given as goal
 
 abbrev pub invariant-loop-d : goal.invariant-loop-d

@@ -1,5 +1,5 @@
 -- `number_of` asks the tests of `number_of` in their order. Assumes nothing.
-use Rattle.std.proofs.Common.{rules, eq-eqb, ne_eqb, le-leb}
+use Rattle.std.proofs.Common.{eq-eqb, ne_eqb, le-leb}
 use borrow.Author.Tests.{lt-leb}
 use Rattle.text.proofs.line.number_of.Goals as goal
 

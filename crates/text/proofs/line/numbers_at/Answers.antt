@@ -1,8 +1,16 @@
-use Rattle.std.proofs.Common.{◌-◌, length, sym, ap, ◌∙◌, ⊎_elim, arith, rules}
+use Rattle.std.proofs.Common.{sym, ap, ◌∙◌, arith}
+use Rattle.std.specs.Prelude.{◌≡◌, ℕ, ◌+◌, List, drop, slice_index_or}
+use Rattle.text.specs.Places.{first}
+use Rattle.text.specs.NumberAnswers.{number_in}
 use Rattle.model.specs.Refusals.{number_says}
 use Rattle.text.specs.Rows.{NumbersSoFar, NextNumber, numbers_start, numbers_refused, numbers_within, numbers_next, numbers_full, numbers_on, numbers_inside, numbers_ended, numbers_other}
 use Rattle.text.proofs.line.numbers_at.Goals as goal
-use Rattle.text.proofs.line.numbers_at.Goals.{After-number_at}
+use Rattle.text.proofs.line.numbers_at.Goals.{then-k-lt-MOST, else-k-lt-MOST}
+
+-- the number that the loop has come to
+next_number : {s : List ℕ} {from i k : ℕ} {ns : List ℕ} {x : ℕ × List ℕ} → NumbersSoFar s from i k ns → slice_index_or s i 0 ≡ 9
+    → x ≡ number_in (i + 1) (first (drop (i + 1) s)) → NextNumber s from i k ns x
+next_number z t n = record { so_far = z; tab_is = t; says = n }
 
 pub loop-i-init : goal.loop-i-init
 loop-i-init c = numbers_start _ _
@@ -10,35 +18,29 @@ loop-i-init c = numbers_start _ _
 pub overflow_add-i : goal.overflow_add-i
 overflow_add-i c = omega (arith, numbers_inside _ _ _ _ _ c.loop-i.invariant 9 (sym c.byte_at.ensures ∙ c.loop-i-test.true) (omega arith))
 
--- the number that the loop has come to
-next-number : (c : After-number_at)
-    → let a = c.args in
-    NextNumber a.s.now a.from c.loop-i.i c.loop-i.k c.loop-i.numbers (number_says c.number_at.result)
-next-number c =
-    record {
-      so_far = c.loop-i.invariant;
-      tab_is = sym c.byte_at.ensures ∙ c.loop-i-test.true;
-      says = c.number_at.ensures;
-    }
-
 pub returns-in_default : goal.returns-in_default
-returns-in_default c = c.none.ensures ∙ numbers_refused (next-number c.before.before.before) (ap number_says c.enum_told-1.given.1)
+returns-in_default c =
+    c.none.ensures ∙ numbers_refused (next_number c.loop-i.invariant (sym c.byte_at.ensures ∙ c.loop-i-test.true) c.number_at.ensures) (ap number_says c.in_default.is)
 
 pub overflow_add-k : goal.overflow_add-k
 overflow_add-k c =
-    omega (arith, numbers_within (next-number c.before.before.before.before), c.loop-i.invariant.slow)
+    let n = next_number c.loop-i.invariant (sym c.byte_at.ensures ∙ c.loop-i-test.true) c.number_at.ensures in
+    omega (arith, numbers_within n, c.loop-i.invariant.slow)
 
 pub loop-i-smaller : goal.loop-i-smaller
 loop-i-smaller c =
-    let n = next-number c.before.before.before.before in
-    omega (arith, numbers_within n, numbers_on n _ _ (ap number_says c.v-1.given.1))
+    let n = next_number c.loop-i.invariant (sym c.byte_at.ensures ∙ c.loop-i-test.true) c.number_at.ensures in
+    omega (arith, numbers_within n, numbers_on n _ _ (ap number_says c.in-Value.is))
 
 pub loop-i-preserved : goal.loop-i-preserved
 loop-i-preserved c =
-    let n = next-number c.before.before.before.before in
+    let n = next_number c.loop-i.invariant (sym c.byte_at.ensures ∙ c.loop-i-test.true) c.number_at.ensures in
     numbers_next n _ _ _
-    (⊎_elim (λ w. sym w.1) (λ w. numbers_full n _ _ w.0.left w.1) c.if-k-lt-MOST.branch)
-    (ap number_says c.v-1.given.1)
+    (elim c.if-k-lt-MOST.branch [
+      | then-k-lt-MOST w ↦ sym w.numbers-is
+      | else-k-lt-MOST w ↦ numbers_full n _ _ w.if-k-lt-MOST.false w.numbers-is
+    ])
+    (ap number_says c.in-Value.is)
 
 pub overflow_add-result : goal.overflow_add-result
 overflow_add-result c =

@@ -1,8 +1,7 @@
 -- `numbers_at` goes over the numbers of the rest of the line; what is left of it says the rest (`Numbers`).
 -- The measure is what is left of the text. Assumes nothing.
-use Rattle.std.proofs.Common.{◌-◌, length, sym, ap, ◌∙◌, ⊎_elim, arith, rules}
-use Rattle.model.specs.Refusals.{number_says}
-use Rattle.text.specs.Rows.{NumbersSoFar, NextNumber, numbers_start, numbers_refused, numbers_within, numbers_next, numbers_full, numbers_on, numbers_inside, numbers_ended, numbers_other}
+use Rattle.std.proofs.Common.{◌-◌, length}
+use Rattle.text.specs.Rows.{NumbersSoFar}
 use Rattle.text.proofs.line.numbers_at.Given as goal
 
 abbrev pub invariant-loop-i : goal.invariant-loop-i

@@ -1,5 +1,5 @@
 -- `put_field` puts the tab and then the number. Assumes nothing.
-use Rattle.std.proofs.Common.{arith, rules}
+use Rattle.std.proofs.Common.{arith}
 use Rattle.text.specs.Put.{put_put}
 use Rattle.text.proofs.put.put_field.Goals as goal
 

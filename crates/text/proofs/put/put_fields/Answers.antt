@@ -1,6 +1,6 @@
-use Rattle.std.proofs.Common.{◌-◌, length, take, refl, ap, arith, rules}
+use Rattle.std.proofs.Common.{refl, ap, arith}
 use lib.Seq.{take-length}
-use Rattle.text.specs.Put.{fields_of, Putting, putting_start, putting_more, putting_done, fields_next}
+use Rattle.text.specs.Put.{fields_of, putting_start, putting_more, putting_done, fields_next}
 use Rattle.text.proofs.put.put_fields.Goals as goal
 
 pub loop-i-init : goal.loop-i-init

@@ -1,7 +1,6 @@
 -- `put_fields` puts the numbers in turn (`Putting`). The measure is how many are left. Assumes nothing.
-use Rattle.std.proofs.Common.{◌-◌, length, take, refl, ap, arith, rules}
-use lib.Seq.{take-length}
-use Rattle.text.specs.Put.{fields_of, Putting, putting_start, putting_more, putting_done, fields_next}
+use Rattle.std.proofs.Common.{◌-◌, length, take}
+use Rattle.text.specs.Put.{fields_of, Putting}
 use Rattle.text.proofs.put.put_fields.Given as goal
 
 abbrev pub invariant-loop-i : goal.invariant-loop-i

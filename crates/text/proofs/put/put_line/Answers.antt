@@ -1,5 +1,5 @@
 -- `put_line` puts the word, the numbers and the LF, one after the other. Assumes nothing.
-use Rattle.std.proofs.Common.{arith, rules}
+use Rattle.std.proofs.Common.{arith}
 use Rattle.text.specs.Put.{put_put, put_same, line_parts}
 use Rattle.text.proofs.put.put_line.Goals as goal
 

@@ -1,8 +1,8 @@
-use Rattle.std.proofs.Common.{◌≡◌, ◌-◌, ◌≤◌, min, length, take, refl, ap, arith, rules}
+use Rattle.std.proofs.Common.{refl, ap, arith}
 use Rattle.document.specs.Program.{send_lines}
 use Rattle.laws.specs.Taken.{take_min}
 use Rattle.text.specs.SendLines.{send_more}
-use Rattle.text.specs.Put.{Putting, putting_start, putting_more, putting_done}
+use Rattle.text.specs.Put.{putting_start, putting_more, putting_done}
 use Rattle.model.specs.Limits.{most_channels}
 use Rattle.text.proofs.put.put_sends.Goals as goal
 

@@ -1,6 +1,6 @@
-use Rattle.std.proofs.Common.{◌-◌, length, take, refl, arith, rules}
+use Rattle.std.proofs.Common.{refl, arith}
 use lib.Seq.{take-length}
-use Rattle.text.specs.Put.{Putting, putting_start, putting_more, putting_done}
+use Rattle.text.specs.Put.{putting_start, putting_more, putting_done}
 use Rattle.text.specs.DigitsPut.{take_next}
 use Rattle.text.proofs.put.put_word.Goals as goal
 

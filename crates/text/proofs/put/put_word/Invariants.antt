@@ -1,8 +1,6 @@
 -- `put_word` puts the bytes of the word in turn (`Putting`). The measure is how many are left. Assumes nothing.
-use Rattle.std.proofs.Common.{◌-◌, length, take, refl, arith, rules}
-use lib.Seq.{take-length}
-use Rattle.text.specs.Put.{Putting, putting_start, putting_more, putting_done}
-use Rattle.text.specs.DigitsPut.{take_next}
+use Rattle.std.proofs.Common.{◌-◌, length, take}
+use Rattle.text.specs.Put.{Putting}
 use Rattle.text.proofs.put.put_word.Given as goal
 
 abbrev pub invariant-loop-i : goal.invariant-loop-i

@@ -1,5 +1,5 @@
 -- `first_fault` asks the form first, then rule 2, as `first_row_fault` does. Assumes nothing.
-use Rattle.std.proofs.Common.{◌∙◌, rules, eq-eqb, ne_eqb}
+use Rattle.std.proofs.Common.{◌∙◌, eq-eqb, ne_eqb}
 use Rattle.text.proofs.reader.first_fault.Goals as goal
 
 pub returns-then-row-eq1 : goal.returns-then-row-eq1

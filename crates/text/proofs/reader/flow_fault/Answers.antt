@@ -1,5 +1,5 @@
 -- `flow_fault` asks the form first, then rules 3 to 9, as `flow_row_fault` does. Assumes nothing.
-use Rattle.std.proofs.Common.{◌∙◌, rules, le-leb}
+use Rattle.std.proofs.Common.{◌∙◌, le-leb}
 use borrow.Author.Tests.{lt-leb}
 use Rattle.text.proofs.reader.flow_fault.Goals as goal
 

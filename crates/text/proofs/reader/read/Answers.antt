@@ -1,6 +1,6 @@
 -- `read` judges the first line, then reads the flows from the next one on; that it names the field follows from what it answers.
 -- Assumes nothing.
-use Rattle.std.proofs.Common.{◌≡◌, ℕ, List, sym, ◌∙◌, rules}
+use Rattle.std.proofs.Common.{◌≡◌, ℕ, List, sym, ◌∙◌}
 use Rattle.model.specs.declared.answers.Reading.{Reading}
 use Rattle.document.specs.Reader.{read_text}
 use Rattle.document.specs.FieldNamed.{ReaderNames}

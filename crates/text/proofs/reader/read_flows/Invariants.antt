@@ -1,13 +1,11 @@
 -- `read_flows` goes over the lines; what is left of them, read after the flows so far, is the whole answer (`Lines`).
 -- The measure is what is left of the text. Assumes nothing.
-use Rattle.std.proofs.Common.{◌≡◌, ◌-◌, ◌<◌, length, drop, sym, ◌∙◌, arith, rules}
+use Rattle.std.proofs.Common.{◌≡◌, ◌-◌, length, drop}
 use Rattle.document.specs.Reader.{read_flows}
-use Rattle.model.specs.Limits.{most_flows}
-use Rattle.model.specs.Refusals.{refusal_number}
 use Rattle.model.specs.Sets.{blank_set}
 use Rattle.document.specs.Text.{lines}
 use Rattle.text.specs.RowFaults.{set_with}
-use Rattle.text.specs.FlowRows.{Lines, NextLine, lines_start, lines_done, lines_refused, lines_good, lines_on, lines_more}
+use Rattle.text.specs.FlowRows.{Lines}
 use Rattle.text.proofs.reader.read_flows.Given as goal
 
 abbrev pub invariant-loop-at : goal.invariant-loop-at

@@ -1,6 +1,5 @@
-use Rattle.std.proofs.Common.{◌-◌, refl, rules}
-use Rattle.text.specs.PaddedEntries.{Filled, filled_start, filled_more, filled_done}
-use Rattle.model.specs.Limits.{most_nodes}
+use Rattle.std.proofs.Common.{refl}
+use Rattle.text.specs.PaddedEntries.{filled_start, filled_more, filled_done}
 use Rattle.text.proofs.reader.route_of.Goals as goal
 
 pub loop-i-init : goal.loop-i-init

@@ -1,6 +1,6 @@
 -- `route_of` copies the entries from the fourth on, each to its place (`Filled`). Assumes nothing.
-use Rattle.std.proofs.Common.{◌-◌, refl, rules}
-use Rattle.text.specs.PaddedEntries.{Filled, filled_start, filled_more, filled_done}
+use Rattle.std.proofs.Common.{◌-◌}
+use Rattle.text.specs.PaddedEntries.{Filled}
 use Rattle.model.specs.Limits.{most_nodes}
 use Rattle.text.proofs.reader.route_of.Given as goal
 

@@ -1,5 +1,4 @@
 -- `set_row` is the row of the text's first line. Assumes nothing.
-use Rattle.std.proofs.Common.{rules}
 use Rattle.text.proofs.reader.set_row.Goals as goal
 
 pub returns : goal.returns

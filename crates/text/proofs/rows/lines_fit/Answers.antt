@@ -1,5 +1,5 @@
-use Rattle.std.proofs.Common.{◌-◌, sym, rules}
-use Rattle.text.specs.WrittenRows.{Measured, measured_none, measured_more, measured_short, measured_all}
+use Rattle.std.proofs.Common.{sym, rules}
+use Rattle.text.specs.WrittenRows.{measured_none, measured_more, measured_short, measured_all}
 use Rattle.text.proofs.rows.lines_fit.Goals as goal
 
 pub loop-i-init : goal.loop-i-init

@@ -1,6 +1,6 @@
 -- `lines_fit` measures line by line (`Measured`). The measure is how many rows are left. Assumes nothing.
-use Rattle.std.proofs.Common.{◌-◌, sym, rules}
-use Rattle.text.specs.WrittenRows.{Measured, measured_none, measured_more, measured_short, measured_all}
+use Rattle.std.proofs.Common.{◌-◌}
+use Rattle.text.specs.WrittenRows.{Measured}
 use Rattle.text.proofs.rows.lines_fit.Given as goal
 
 abbrev pub invariant-loop-i : goal.invariant-loop-i

@@ -1,5 +1,5 @@
 -- `put_row` puts the four numbers, each but the first after a tab, and the LF. Assumes nothing.
-use Rattle.std.proofs.Common.{arith, rules}
+use Rattle.std.proofs.Common.{arith}
 use Rattle.text.specs.Put.{put_put}
 use Rattle.document.specs.Text.{decimals, tabbed, line_of}
 use Rattle.text.proofs.rows.put_row.Goals as goal

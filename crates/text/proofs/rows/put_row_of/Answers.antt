@@ -1,7 +1,6 @@
 -- `put_row_of` puts the line of the four numbers that stand at row i. Assumes nothing beyond its `requires`.
 use Rattle.text.specs.Put.{put_same}
 use Rattle.text.specs.WrittenRows.{line_same}
-use Rattle.std.proofs.Common.{rules}
 use Rattle.text.proofs.rows.put_row_of.Goals as goal
 
 pub returns : goal.returns

@@ -1,6 +1,6 @@
-use Rattle.std.proofs.Common.{◌≡◌, ℕ, ◌-◌, ◌/◌, length, refl, ap, arith, rules}
+use Rattle.std.proofs.Common.{ℕ, refl, ap, arith}
 use Rattle.document.specs.Superframe.{row_lines, rows_in}
-use Rattle.text.specs.Put.{Putting, putting_start, putting_more, putting_done}
+use Rattle.text.specs.Put.{putting_start, putting_more, putting_done}
 use Rattle.text.specs.WrittenRows.{rows_next}
 use Rattle.text.proofs.rows.put_rows.Goals as goal
 

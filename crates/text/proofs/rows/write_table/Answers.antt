@@ -1,5 +1,5 @@
 -- `write_table` asks for the room, and writes only where there is enough. Assumes nothing.
-use Rattle.std.proofs.Common.{refl, ◌∙◌, arith, rules}
+use Rattle.std.proofs.Common.{refl, ◌∙◌, arith}
 use Rattle.document.specs.Superframe.{row_lines, rows_of, write_table_answer, write_table_into}
 use Rattle.text.specs.WriteRoom.{room_answer, room_into, room_short, room_enough}
 use Rattle.text.proofs.rows.write_table.Goals as goal

@@ -1,5 +1,5 @@
-use Rattle.std.proofs.Common.{◌-◌, length, refl, ◌∙◌, arith, rules}
-use Rattle.text.specs.EndedNumbers.{DigitsToEnd, to_end_inside, to_end_more, to_end_above, to_end}
+use Rattle.std.proofs.Common.{refl, ◌∙◌, arith}
+use Rattle.text.specs.EndedNumbers.{to_end_inside, to_end_more, to_end_above, to_end}
 use Rattle.text.proofs.table.digits_to.Goals as goal
 
 pub loop-d-init : goal.loop-d-init

@@ -1,7 +1,7 @@
 -- `digits_to` goes over the digits and carries their value; what is left of them says the rest (`DigitsToEnd`).
 -- The measure is what is left of the text. Assumes nothing beyond its `requires`.
-use Rattle.std.proofs.Common.{◌-◌, length, refl, ◌∙◌, arith, rules}
-use Rattle.text.specs.EndedNumbers.{DigitsToEnd, to_end_inside, to_end_more, to_end_above, to_end}
+use Rattle.std.proofs.Common.{◌-◌, length}
+use Rattle.text.specs.EndedNumbers.{DigitsToEnd}
 use Rattle.text.proofs.table.digits_to.Given as goal
 
 abbrev pub invariant-loop-d : goal.invariant-loop-d

@@ -1,5 +1,5 @@
 -- `ended_by` asks the one test of `end_if`. The byte is not 0, so it stands within the text. Assumes nothing beyond its `requires`.
-use Rattle.std.proofs.Common.{sym, ◌∙◌, arith, rules, eq-eqb, ne_eqb}
+use Rattle.std.proofs.Common.{sym, ◌∙◌, arith, eq-eqb, ne_eqb}
 use Rattle.text.specs.Rows.{drop_byte}
 use Rattle.text.proofs.table.ended_by.Goals as goal
 

@@ -1,5 +1,5 @@
 -- `field_at` is told by its first digit: none, a zero that stands alone, or one that further digits follow. Assumes nothing beyond its `requires`.
-use Rattle.std.proofs.Common.{◌∙◌, arith, rules}
+use Rattle.std.proofs.Common.{◌∙◌, arith}
 use Rattle.text.specs.EndedNumbers.{first_inside, first_none, first_zero, first_other}
 use Rattle.text.proofs.table.field_at.Goals as goal
 

@@ -1,8 +1,7 @@
 -- `judge_lines` goes over the lines; what is left of them, judged after the row before, is the whole fault (`Judging`).
 -- The measure is what is left of the text. Assumes nothing.
-use Rattle.std.proofs.Common.{◌-◌, ◌<◌, ◌≤◌, length, ap, arith, rules}
-use Rattle.text.specs.RowAtPlace.{row_says}
-use Rattle.text.specs.LinesJudged.{key_of, Judging, judging_start, judging_ends, NextRow, row_refused, row_low, row_further, row_passes, judges_bad, judges_good}
+use Rattle.std.proofs.Common.{◌-◌, length}
+use Rattle.text.specs.LinesJudged.{Judging}
 use Rattle.text.proofs.table.judge_lines.Given as goal
 
 abbrev pub invariant-loop-at : goal.invariant-loop-at

@@ -1,9 +1,8 @@
 -- `read_table` stores the numbers only where neither the lines nor the room refuse the table. Assumes nothing.
-use Rattle.std.proofs.Common.{length, ◌∙◌, arith, rules}
+use Rattle.std.proofs.Common.{length, ◌∙◌, arith}
 use Rattle.laws.specs.Codes.{accepts, refuses}
-use Rattle.text.specs.TableRead.{Reads, fault_read, reads_good, answer_refused, answer_good, into_refused, into_good}
+use Rattle.text.specs.TableRead.{fault_read, reads_good, answer_refused, answer_good, into_refused, into_good}
 use Rattle.text.proofs.table.read_table.Goals as goal
-use Rattle.text.proofs.table.read_table.Goals.{Else-refuses}
 
 pub returns-then-refuses : goal.returns-then-refuses
 returns-then-refuses c =
@@ -11,22 +10,18 @@ returns-then-refuses c =
     let j = c.judge_lines-judged in
     let g = refuses f.result c.refuses.ensures c.if-refuses.true in record { value = c.refused.ensures ∙ answer_refused _ _ j.result j.ensures _ f.ensures g; table_after_is = into_refused _ _ _ (fault_read _ _ j.result j.ensures _ f.ensures) g }
 
--- nothing is refused
-reads : (c : Else-refuses)
-    → let j = c.before.before.before in
-    let a = j.before.before.before.args in
-    Reads a.text.now (length a.table.now) j.judge-lines.result.rows
-reads c =
-    let f = c.table_fault-fault in
-    let j = c.judge_lines-judged in
-    reads_good _ _ j.result j.ensures _ f.ensures (accepts f.result c.refuses.ensures c.if-refuses.false)
-
 pub store_numbers-requires : goal.store_numbers-requires
-store_numbers-requires c = let r = reads c.before in (r.accepted, r.fits)
+store_numbers-requires c =
+    let j = c.judge_lines-judged in
+    let f = c.table_fault-fault in
+    let r = reads_good c.args.text.now (length c.args.table.now) j.result j.ensures _ f.ensures (accepts f.result c.refuses.ensures c.if-refuses.false) in
+    (r.accepted, r.fits)
 
 pub overflow_mul-result : goal.overflow_mul-result
 overflow_mul-result c =
-    let r = reads c.before.before.before.before.before.before in
+    let j = c.judge_lines-judged in
+    let f = c.table_fault-fault in
+    let r = reads_good c.args.text.now (length c.args.table.now) j.result j.ensures _ f.ensures (accepts f.result c.refuses.ensures c.if-refuses.false) in
     omega (arith, r.numbers, r.fits)
 
 pub returns : goal.returns

@@ -1,5 +1,5 @@
 -- `room_fault` compares the rows with the room. Assumes nothing.
-use Rattle.std.proofs.Common.{rules, le-ltb, lt-ltb}
+use Rattle.std.proofs.Common.{le-ltb, lt-ltb}
 use Rattle.text.proofs.table.room_fault.Goals as goal
 
 pub returns-then-room-rows : goal.returns-then-room-rows

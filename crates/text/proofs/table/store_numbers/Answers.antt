@@ -1,6 +1,5 @@
-use Rattle.std.proofs.Common.{◌≡◌, ◌-◌, length, refl, arith, rules}
-use Rattle.document.specs.Superframe.{at_start, flat, rows_of_text}
-use Rattle.text.specs.TableStored.{Storing, storing_start, storing_ends, storing_small, storing_room, storing_number, storing_digit}
+use Rattle.std.proofs.Common.{refl, arith, rules}
+use Rattle.text.specs.TableStored.{storing_start, storing_ends, storing_small, storing_room, storing_number, storing_digit}
 use Rattle.text.proofs.table.store_numbers.Goals as goal
 
 pub loop-at-init : goal.loop-at-init

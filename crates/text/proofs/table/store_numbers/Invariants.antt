@@ -1,8 +1,8 @@
 -- `store_numbers` goes over the bytes; what is left of them, stored after what is stored, gives the whole table (`Storing`).
 -- The measure is what is left of the text. Assumes nothing beyond its `requires`.
-use Rattle.std.proofs.Common.{◌≡◌, ◌-◌, length, refl, arith, rules}
+use Rattle.std.proofs.Common.{◌≡◌, ◌-◌, length}
 use Rattle.document.specs.Superframe.{at_start, flat, rows_of_text}
-use Rattle.text.specs.TableStored.{Storing, storing_start, storing_ends, storing_small, storing_room, storing_number, storing_digit}
+use Rattle.text.specs.TableStored.{Storing}
 use Rattle.text.proofs.table.store_numbers.Given as goal
 
 abbrev pub invariant-loop-at : goal.invariant-loop-at

@@ -1,5 +1,5 @@
 -- `table_fault` has the fault of the lines before that of the room. Assumes nothing.
-use Rattle.std.proofs.Common.{ap, ◌∙◌, rules}
+use Rattle.std.proofs.Common.{ap, ◌∙◌}
 use Rattle.model.specs.Refusals.{or_else}
 use Rattle.text.proofs.table.table_fault.Goals as goal
 

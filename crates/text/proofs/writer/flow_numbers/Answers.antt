@@ -1,8 +1,7 @@
 use Prim.{tt}
-use Rattle.std.proofs.Common.{◌-◌, refl, rules}
+use Rattle.std.proofs.Common.{refl, rules}
 use mir.Facts.{Fits-widen}
-use Rattle.model.specs.Limits.{most_nodes}
-use Rattle.text.specs.FlowNumbers.{Copied, copied_start, copied_more, copied_done}
+use Rattle.text.specs.FlowNumbers.{copied_start, copied_more, copied_done}
 use Rattle.text.specs.HeldByCode.{node_held}
 use Rattle.text.proofs.writer.flow_numbers.Goals as goal
 

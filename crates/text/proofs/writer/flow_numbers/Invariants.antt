@@ -1,10 +1,7 @@
 -- `flow_numbers` puts the four numbers first and copies the nodes behind them (`Copied`). Assumes nothing.
-use Prim.{tt}
-use Rattle.std.proofs.Common.{◌-◌, refl, rules}
-use mir.Facts.{Fits-widen}
+use Rattle.std.proofs.Common.{◌-◌}
 use Rattle.model.specs.Limits.{most_nodes}
-use Rattle.text.specs.FlowNumbers.{Copied, copied_start, copied_more, copied_done}
-use Rattle.text.specs.HeldByCode.{node_held}
+use Rattle.text.specs.FlowNumbers.{Copied}
 use Rattle.text.proofs.writer.flow_numbers.Given as goal
 
 abbrev pub invariant-loop-i : goal.invariant-loop-i

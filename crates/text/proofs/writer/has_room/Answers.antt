@@ -1,5 +1,5 @@
 -- `has_room`: no text is longer than the longest, and what is measured is the text's length. Assumes nothing beyond its `requires`.
-use Rattle.std.proofs.Common.{length, sym, refl, arith, rules, le-leb}
+use Rattle.std.proofs.Common.{length, sym, refl, arith, le-leb}
 use Rattle.model.specs.Sets.{used}
 use Rattle.document.specs.Reader.{text_of}
 use Rattle.text.specs.WriteRoom.{room_measured}

@@ -1,5 +1,5 @@
 -- `put_flow` puts the line of the flow's numbers as far as its route goes. Assumes nothing.
-use Rattle.std.proofs.Common.{◌≡◌, length, take, sym, ap, ◌∙◌, arith, length-take-le, rules}
+use Rattle.std.proofs.Common.{take, ap, ◌∙◌, rules}
 use Rattle.document.specs.Text.{flow_word, line_of}
 use Rattle.text.specs.Put.{put_same}
 use Rattle.text.specs.SetLines.{line_numbers}

@@ -1,19 +1,15 @@
-use Rattle.std.proofs.Common.{◌≡◌, ◌-◌, min, length, take, refl, arith, rules}
-use lib.ListN.{length-map}
+use Rattle.std.proofs.Common.{refl, arith, rules}
 use Rattle.document.specs.Reader.{flow_lines}
-use Rattle.model.specs.Sets.{used}
-use Rattle.text.specs.Put.{Putting, putting_start, putting_more, putting_done}
+use Rattle.text.specs.Put.{putting_start, putting_more, putting_done}
 use Rattle.text.specs.SetLines.{flow_next, flow_all}
-use Rattle.model.specs.Limits.{most_flows}
 use Rattle.text.proofs.writer.put_flows.Goals as goal
 
 pub loop-k-init : goal.loop-k-init
 unfolding flow_lines
 loop-k-init c = (
-  simp length-map at c.well_formed.1.1.0.1.1.1.1.0.1.0.1,
+  search rules,
   c.used_flows-n.ensures.0,
   putting_start _ _ _ _ refl (omega arith),
-
 )
 
 pub loop-k-preserved : goal.loop-k-preserved

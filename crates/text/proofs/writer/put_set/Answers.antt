@@ -1,5 +1,5 @@
 -- `put_set` puts the set's line and then the flows' lines. Assumes nothing.
-use Rattle.std.proofs.Common.{arith, rules}
+use Rattle.std.proofs.Common.{arith}
 use Rattle.text.specs.Put.{put_put, put_same}
 use Rattle.text.specs.SetLines.{text_parts}
 use Rattle.text.proofs.writer.put_set.Goals as goal

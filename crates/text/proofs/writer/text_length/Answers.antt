@@ -1,5 +1,5 @@
 -- `text_length` stores nothing, since the buffer ends where it puts. Assumes nothing.
-use Rattle.std.proofs.Common.{arith, rules}
+use Rattle.std.proofs.Common.{arith}
 use Rattle.text.specs.WriteRoom.{length_found}
 use Rattle.text.proofs.writer.text_length.Goals as goal
 

@@ -1,6 +1,6 @@
 -- `write` asks the record check, and then the room decides; any record that it is handed is held in arrays of their lengths and numbers of
 -- 16 bits, of which the round trip is proved. Assumes nothing.
-use Rattle.std.proofs.Common.{sym, ap, ◌∙◌, rules}
+use Rattle.std.proofs.Common.{sym, ap, ◌∙◌}
 use Rattle.model.specs.declared.answers.Fault.{Fault}
 use Rattle.model.specs.Refusals.{good}
 use borrow.Author.Tests.{not-true, not-false}
@@ -12,7 +12,8 @@ use Rattle.text.proofs.writer.write.Goals as goal
 pub returns-then-refuses : goal.returns-then-refuses
 returns-then-refuses c =
     let y = not-true _ (sym c.refuses.ensures ∙ c.if-refuses.true) in
-    let a = write_refused _ _ _ c.record_fault-fault.ensures y in let held = (c.refused.ensures ∙ a.answer, (a.bytes, read_again c.args.s (set_held c.args.s _ c.well_formed.0))) in record { answer = held.0; bytes = held.1; again = held.2 }
+    let a = write_refused _ _ _ c.record_fault-fault.ensures y in
+    record { answer = c.refused.ensures ∙ a.answer; bytes = a.bytes; again = read_again c.args.s (set_held c.args.s _ c.well_formed.0) }
 
 pub write_text-requires : goal.write_text-requires
 write_text-requires c =
@@ -25,4 +26,5 @@ pub returns : goal.returns
 returns c =
     let t = c.write_text.ensures in
     let n = not-false _ (sym c.refuses.ensures ∙ c.if-refuses.false) in
-    let a = write_accepted _ _ _ c.record_fault-fault.ensures n _ _ t.0 t.1 in let held = (a.answer, (a.bytes, read_again c.args.s (set_held c.args.s _ c.well_formed.0))) in record { answer = held.0; bytes = held.1; again = held.2 }
+    let a = write_accepted _ _ _ c.record_fault-fault.ensures n _ _ t.0 t.1 in
+    record { answer = a.answer; bytes = a.bytes; again = read_again c.args.s (set_held c.args.s _ c.well_formed.0) }

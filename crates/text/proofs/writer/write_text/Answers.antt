@@ -1,5 +1,5 @@
 -- `write_text` asks for the room, and writes only where there is enough. Assumes nothing beyond its `requires`.
-use Rattle.std.proofs.Common.{◌∙◌, arith, rules}
+use Rattle.std.proofs.Common.{◌∙◌, arith}
 use Rattle.text.specs.WriteRoom.{room_short, room_enough}
 use Rattle.text.proofs.writer.write_text.Goals as goal
 
