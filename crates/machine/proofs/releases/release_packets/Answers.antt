@@ -1,0 +1,24 @@
+-- `release_packets` leaves all as it is where no release comes, and otherwise makes the releases and the order anew. Assumes nothing.
+use Rattle.machine.specs.NextReleases.{released_none}
+use native.Mathlib.Omega.{arith}
+use borrow.Author.Rules.{rules}
+use Rattle.machine.proofs.releases.release_packets.Goals as goal
+
+pub returns-then-t-soonest : goal.returns-then-t-soonest
+returns-then-t-soonest c =
+    let p = c.requires in
+    let h = c.if-t-soonest.true in
+    let n = p.per_flow.1.1.0 in
+    record {
+      released = released_none _ _ _ _ _ (λ k b. omega (arith, h, n k b));
+      soon = n;
+      in_order = p.per_flow.1.1.1 h;
+      long_order = p.per_flow.0.3;
+      few = p.count_le_most_flows.2;
+    }
+
+pub returns : goal.returns
+returns c =
+    let r = c.release-first.ensures in
+    let l = c.line_up-ready.ensures in
+    record { released = r.0; soon = r.1; in_order = (_, l.in_order, λ k b e. e); long_order = l.long; few = l.few }
