@@ -15,7 +15,6 @@ use mathlib.Core.Path.{◌≡◌, refl, sym, ap, ap₂, ◌∙◌}
 use Rattle.laws.specs.Loops.{SoFar, begins, goes_on, ends}
 use borrow.Author.Rules.{rules}
 use Rattle.machine.proofs.runs.count_and_advance.Goals as goal
-use Rattle.machine.proofs.runs.count_and_advance.Goals.{After-bit-delivered, After-is_delivered-got, In-loop-k, Start}
 
 pub loop-k-init : goal.loop-k-init
 unfolding filter_to
@@ -25,72 +24,49 @@ loop-k-init c = begins (refl, refl, through_none _ _)
 more : (p : ℕ → Bool) (k : ℕ) → length (filter_to p (k + 1)) ≡ length (filter_to p k) + bit (p k)
 more p k = length_filter_to p (k + 1) ∙ sum_next (λ j. bit (p j)) k ∙ ap (λ (x : ℕ). x + bit (p k)) (sym (length_filter_to p k))
 
--- flow k's packet is delivered, and dropped
-abbrev got : Start → ℕ → Bool
-got s = delivered_by s.args.sent.now s.args.work.now s.args.marked.now
-
-abbrev lost : Start → ℕ → Bool
-lost s = let a = s.args in dropped_by a.t (packets_of a.start.now a.due.now a.sent.now a.work.now) a.marked.now
-
--- the loop at flow k
-abbrev tested : After-bit-delivered → After-is_delivered-got
-tested c = c.before.before.before.before.before
-
-abbrev looked : After-bit-delivered → In-loop-k
-looked c = (tested c).before.before.before.before
-
--- a count and its mark are small
-small : (c : In-loop-k)
-    → (get_or c.loop-k.sent c.loop-k.k 0 ≤ 64) × (get_or c.args.marked.now c.loop-k.k 0 ≤ 1)
-small c =
+pub overflow_add-after : goal.overflow_add-after
+overflow_add-after c =
     let v = c.loop-k in
     let p = c.requires.by_index v.k in
-    (rw (v.invariant.holds.2.above v.k (le_refl v.k)) p.0, p.1)
-
-pub overflow_add-after : goal.overflow_add-after
-overflow_add-after c = omega (arith, small c.before.before.before.before)
+    let u : get_or v.sent v.k 0 ≡ get_or c.args.sent.now v.k 0 = v.invariant.holds.2.above v.k (le_refl v.k) in
+    omega (arith, u, p.0, p.1)
 
 pub overflow_add-delivered : goal.overflow_add-delivered
 overflow_add-delivered c =
-    let i = looked c in
-    let v = i.before.loop in
-    let s = i.before.before in
-    omega (arith, c.bit-delivered.ensures.1, v.inv.holds.0, filter_le (got s) v.k, i.loop-test.taken, s.pre.0.0)
+    let a = c.args in
+    let got = delivered_by a.sent.now a.work.now a.marked.now in
+    let v = c.loop-k in
+    omega (arith, c.bit-delivered.ensures.1, v.invariant.holds.0, filter_le got v.k, c.loop-k-test.true, c.requires.count_le_most_flows.0)
 
 pub overflow_add-dropped : goal.overflow_add-dropped
 overflow_add-dropped c =
-    let i = looked c.before in
-    let v = i.before.loop in
-    let s = i.before.before in
-    omega (arith, c.bit-dropped.ensures.1, v.inv.holds.1, filter_le (lost s) v.k, i.loop-test.taken, s.pre.0.0)
+    let a = c.args in
+    let lost = dropped_by a.t (packets_of a.start.now a.due.now a.sent.now a.work.now) a.marked.now in
+    let v = c.loop-k in
+    omega (arith, c.bit-dropped.ensures.1, v.invariant.holds.1, filter_le lost v.k, c.loop-k-test.true, c.requires.count_le_most_flows.0)
 
 pub loop-k-preserved : goal.loop-k-preserved
 loop-k-preserved c =
-    let i = looked c.before in
-    let v = i.before.loop in
-    let s = i.before.before in
-    let a = s.args in
+    let v = c.loop-k in
+    let a = c.args in
+    let got = delivered_by a.sent.now a.work.now a.marked.now in
+    let lost = dropped_by a.t (packets_of a.start.now a.due.now a.sent.now a.work.now) a.marked.now in
     let k = v.k in
-    let l = i.loop-test.taken in
+    let l = c.loop-k-test.true in
     let m : ℕ = get_or a.marked.now k 0 in
-    let u : get_or v.sent k 0 ≡ get_or a.sent.now k 0 = v.inv.holds.2.above k (le_refl k) in
+    let u : get_or v.sent k 0 ≡ get_or a.sent.now k 0 = v.invariant.holds.2.above k (le_refl k) in
     goes_on l (
-      ap₂ (λ (x y : ℕ). x + y) v.inv.holds.0
-          (c.bit-delivered.ensures.0 ∙ ap bit ((tested c.before).is-delivered.ensures
+      ap₂ (λ (x y : ℕ). x + y) v.invariant.holds.0
+          (c.bit-delivered.ensures.0 ∙ ap bit (c.is_delivered-got.ensures
           ∙ ap (λ (n : ℕ). eqb m 1 && eqb (n + 1) (get_or a.work.now k 0)) u))
-          ∙ sym (more (got s) k),
-      ap₂ (λ (x y : ℕ). x + y) v.inv.holds.1
+          ∙ sym (more got k),
+      ap₂ (λ (x y : ℕ). x + y) v.invariant.holds.1
           (c.bit-dropped.ensures.0 ∙ ap bit (c.is_dropped-lost.ensures
           ∙ ap (λ (n : ℕ). leb (get_or a.start.now k 0) a.t && eqb (a.t + 1) (get_or a.due.now k 0) && ltb (n + m) (get_or a.work.now k 0)) u))
-          ∙ sym (more (lost s) k),
-      through_next _ _ _ _ _ (omega (arith, l, s.pre.0)) (ap (λ (x : ℕ). x + m) u) v.inv.holds.2,
+          ∙ sym (more lost k),
+      through_next _ _ _ _ _ (omega (arith, l, c.requires.count_le_most_flows)) (ap (λ (x : ℕ). x + m) u) v.invariant.holds.2,
     )
 
-pub is_delivered-got-requires : goal.is_delivered-got-requires
-is_delivered-got-requires c = tt
-
-pub is_dropped-lost-requires : goal.is_dropped-lost-requires
-is_dropped-lost-requires c = tt
-
 pub returns : goal.returns
-returns c = let i = ends c.loop-k.invariant c.loop-k-test.false in let held = (i.0, (i.1, i.2)) in record { delivered = held.0; dropped = held.1; counts = held.2 }
+returns c =
+    let held = ends c.loop-k.invariant c.loop-k-test.false in record { delivered = held.0; dropped = held.1; counts = held.2 }

@@ -15,8 +15,19 @@ mark-le placed chosen marked n c k = rw (c.marks k) (bit_one (memb k placed))
 
 pub choose-placed-requires : goal.choose-placed-requires
 choose-placed-requires c =
-    let p = c.requires in let held = ((p.count_le_most_flows.1, p.count_le_most_flows.3, p.count_le_most_flows.4, p.count_le_most_flows.6, refl), (get_or_zeros most_flows, (p.flows_to.0, p.flows_to.1.1))) in record { ways_le_most_channels = held.0; by_index = held.1; flows_to = held.2; links_there = held.3 }
+    let p = c.requires in
+    let m = p.count_le_most_flows in
+    record {
+      ways_le_most_channels = (m.1, m.3, m.4, m.6, refl);
+      by_index = get_or_zeros most_flows;
+      flows_to = p.flows_to;
+      links_there = p.links_there;
+    }
 
 pub count_and_advance-got-requires : goal.count_and_advance-got-requires
 count_and_advance-got-requires c =
-    let p = c.requires in record { count_le_most_flows = (p.count_le_most_flows.0, p.count_le_most_flows.5); by_index = λ k. (p.flows_to.1.0 k, mark-le _ _ _ _ c.choose-placed.ensures.choice k) }
+    let p = c.requires in
+    record {
+      count_le_most_flows = (p.count_le_most_flows.0, p.count_le_most_flows.5);
+      by_index = λ k. (p.by_index k, mark-le _ _ _ _ c.choose-placed.ensures.choice k);
+    }
