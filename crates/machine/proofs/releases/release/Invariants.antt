@@ -12,7 +12,7 @@ use borrow.Author.Rules.{rules}
 use Rattle.machine.proofs.releases.release.Given as goal
 
 abbrev pub invariant-loop-k : goal.invariant-loop-k
-invariant-loop-k l =     SoFar l.count (λ i. Released i l.t l.period l.deadline (releases_of l.initial.due l.initial.next l.initial.sent) (releases_of l.due l.next l.sent) × NoneBefore i l.soonest.0 l.next) l.k
+invariant-loop-k l = SoFar l.count (λ i. Released i l.t l.period l.deadline (releases_of l.initial.due l.initial.next l.initial.sent) (releases_of l.due l.next l.sent) × NoneBefore i l.soonest.0 l.next) l.k
 
 abbrev pub decreases-loop-k : goal.decreases-loop-k
 decreases-loop-k l = l.count - l.k

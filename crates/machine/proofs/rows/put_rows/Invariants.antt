@@ -12,7 +12,7 @@ use borrow.Author.Rules.{rules}
 use Rattle.machine.proofs.rows.put_rows.Given as goal
 
 abbrev pub invariant-loop-i : goal.invariant-loop-i
-invariant-loop-i l =     SoFar l.rows
+invariant-loop-i l = SoFar l.rows
     (λ j. (length l.table ≡ length l.initial.table) × (l.at ≡ l.from + 4 * j) × (l.table ≡ sets l.initial.table l.from (flat (rows_by l.t l.sent 0 (take j l.chosen))))) l.i
 
 abbrev pub decreases-loop-i : goal.decreases-loop-i

@@ -18,7 +18,7 @@ use borrow.Author.Rules.{rules}
 use Rattle.machine.proofs.runs.count_and_advance.Given as goal
 
 abbrev pub invariant-loop-k : goal.invariant-loop-k
-invariant-loop-k l =     SoFar l.count
+invariant-loop-k l = SoFar l.count
     (λ i. (l.delivered ≡ length (delivered_to l.initial.sent l.work l.marked i)) × (l.dropped ≡ length (dropped_to l.t (packets_of l.start l.due l.initial.sent l.work) l.marked i))
     × Through (count_by l.initial.sent l.marked) i l.initial.sent l.sent)
     l.k

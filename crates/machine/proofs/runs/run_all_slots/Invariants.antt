@@ -15,7 +15,7 @@ use borrow.Author.Rules.{rules}
 use Rattle.machine.proofs.runs.run_all_slots.Given as goal
 
 abbrev pub invariant-loop-t : goal.invariant-loop-t
-invariant-loop-t l =     let numbers = numbers_of l.start l.period l.deadline l.work in
+invariant-loop-t l = let numbers = numbers_of l.start l.period l.deadline l.work in
     let links = links_of l.tries l.routes in
     let run₀ = run_arrays_of l.initial.due l.initial.next l.initial.sent l.initial.order 0 0 in
     let run = run_arrays_of l.due l.next l.sent l.order l.soonest.0 l.waiting in
@@ -28,4 +28,4 @@ invariant-loop-t l =     let numbers = numbers_of l.start l.period l.deadline l.
     l.t
 
 abbrev pub decreases-loop-t : goal.decreases-loop-t
-decreases-loop-t l =     l.slots - l.t
+decreases-loop-t l = l.slots - l.t
