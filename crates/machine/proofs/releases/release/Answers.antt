@@ -1,13 +1,9 @@
 use Rattle.machine.specs.PacketNumbers.{sum_fits}
 use Rattle.machine.specs.ArrayLists.{through_none}
-use Rattle.machine.specs.LentArrays.{releases_of}
-use Rattle.machine.specs.NextReleases.{NoneBefore, Released, released_now, released_later, soon_set, soon_stay}
+use Rattle.machine.specs.NextReleases.{released_now, released_later, soon_set, soon_stay}
 use native.Mathlib.Omega.{arith}
-use Prim.{tt}
-use Prim.Native.Nat.{◌-◌}
 use mathlib.Core.Path.{◌∙◌}
-use Rattle.laws.specs.Loops.{SoFar, begins, goes_on, ends}
-use borrow.Author.Rules.{rules}
+use Rattle.laws.specs.Loops.{begins, goes_on, ends}
 use Rattle.machine.proofs.releases.release.Goals as goal
 
 pub loop-k-preserved-then-at-t : goal.loop-k-preserved-then-at-t

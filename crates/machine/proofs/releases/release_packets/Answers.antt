@@ -1,7 +1,6 @@
 -- `release_packets` leaves all as it is where no release comes, and otherwise makes the releases and the order anew. Assumes nothing.
 use Rattle.machine.specs.NextReleases.{released_none}
 use native.Mathlib.Omega.{arith}
-use borrow.Author.Rules.{rules}
 use Rattle.machine.proofs.releases.release_packets.Goals as goal
 
 pub returns-then-t-soonest : goal.returns-then-t-soonest

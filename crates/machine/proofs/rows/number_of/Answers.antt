@@ -1,6 +1,5 @@
 -- `number_of` counts from 0. Assumes nothing.
 use mathlib.Core.Path.{refl}
-use borrow.Author.Rules.{rules}
 use Rattle.machine.proofs.rows.number_of.Goals as goal
 
 pub returns : goal.returns

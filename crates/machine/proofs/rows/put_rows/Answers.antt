@@ -1,11 +1,9 @@
-use mathlib.Core.Path.{◌≡◌, refl}
-use Prim.Native.Nat.{◌+◌, ◌-◌, ◌*◌, ◌≤◌, ◌<◌}
+use mathlib.Core.Path.{refl}
+use Prim.Native.Nat.{◌≤◌}
 use native.Mathlib.Omega.{arith}
-use lib.ListN.{length, get_or, length-set, take}
-use lib.Seq.{sets}
-use Rattle.model.specs.Limits.{most_flows}
+use lib.ListN.{length-set}
 use Rattle.document.specs.Superframe.{flat}
-use Rattle.laws.specs.Loops.{SoFar, begins, goes_on, ends}
+use Rattle.laws.specs.Loops.{begins, goes_on, ends}
 use Rattle.machine.specs.RowsPut.{in_row_2, in_row_3, in_row_4, row_put, rows_by}
 use borrow.Author.Rules.{rules}
 use Rattle.machine.proofs.rows.put_rows.Goals as goal

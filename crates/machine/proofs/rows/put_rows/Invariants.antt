@@ -1,14 +1,11 @@
 -- `put_rows` puts one flow's row more each time round. Assumes nothing.
-use mathlib.Core.Path.{◌≡◌, refl}
-use Prim.Native.Nat.{◌+◌, ◌-◌, ◌*◌, ◌≤◌, ◌<◌}
-use native.Mathlib.Omega.{arith}
-use lib.ListN.{length, get_or, length-set, take}
+use mathlib.Core.Path.{◌≡◌}
+use Prim.Native.Nat.{◌+◌, ◌-◌, ◌*◌}
+use lib.ListN.{length, take}
 use lib.Seq.{sets}
-use Rattle.model.specs.Limits.{most_flows}
 use Rattle.document.specs.Superframe.{flat}
-use Rattle.laws.specs.Loops.{SoFar, begins, goes_on, ends}
-use Rattle.machine.specs.RowsPut.{in_row_2, in_row_3, in_row_4, row_put, rows_by}
-use borrow.Author.Rules.{rules}
+use Rattle.laws.specs.Loops.{SoFar}
+use Rattle.machine.specs.RowsPut.{rows_by}
 use Rattle.machine.proofs.rows.put_rows.Given as goal
 
 abbrev pub invariant-loop-i : goal.invariant-loop-i

@@ -1,7 +1,6 @@
 -- `rows_accepted` runs the set with its rows put. Assumes nothing.
 use mathlib.Core.Path.{refl}
 use native.Mathlib.Omega.{arith}
-use borrow.Author.Rules.{rules}
 use Rattle.machine.proofs.rows.rows_accepted.Goals as goal
 
 pub run_to-requires : goal.run_to-requires

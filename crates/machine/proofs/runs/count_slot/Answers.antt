@@ -6,7 +6,6 @@ use lib.ListN.{get_or}
 use mathlib.Core.List.{List}
 use Prim.Native.Nat.{ℕ, ◌≤◌}
 use mathlib.Core.Path.{refl}
-use borrow.Author.Rules.{rules}
 use Rattle.model.specs.Limits.{most_flows}
 use Rattle.machine.proofs.runs.count_slot.Goals as goal
 

@@ -7,7 +7,6 @@ use Rattle.model.specs.declared.answers.Fault.{Fault}
 use Rattle.model.specs.declared.answers.Ran.{Ran}
 use Rattle.document.specs.Machine.{Priority, order_of, run_with}
 use Rattle.machine.specs.States.{run_cut}
-use borrow.Author.Rules.{rules}
 use Rattle.machine.proofs.runs.run_accepted.Goals as goal
 
 pub run_to-got-requires : goal.run_to-got-requires

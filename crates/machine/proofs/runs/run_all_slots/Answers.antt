@@ -1,14 +1,10 @@
-use mathlib.Core.Bool.{true}
-use mathlib.Core.Path.{◌≡◌, refl, ◌∙◌}
-use Prim.Native.Nat.{◌+◌, ◌-◌, ◌*◌, ◌≤◌, zero-le}
+use mathlib.Core.Path.{refl, ◌∙◌}
+use Prim.Native.Nat.{◌≤◌, zero-le}
 use native.Mathlib.Omega.{arith}
 use lib.ListN.{length}
-use Rattle.model.specs.declared.kinds.FlowSet.{FlowSet}
-use Rattle.model.specs.declared.answers.Fault.{Fault}
-use Rattle.laws.specs.Loops.{SoFar, begins, goes_on, ends}
-use Rattle.machine.specs.LentArrays.{PerPlaced, links_of, numbers_of, run_arrays_of}
-use Rattle.machine.specs.RunSoFar.{RunSoFar, RunOfSome, counts_of}
-use Rattle.machine.specs.RowsPut.{RowsSoFar, all_put, no_rows, rows_fit, rows_if_put, rows_more_law}
+use Rattle.laws.specs.Loops.{begins, goes_on, ends}
+use Rattle.machine.specs.RunSoFar.{counts_of}
+use Rattle.machine.specs.RowsPut.{all_put, no_rows, rows_fit, rows_if_put, rows_more_law}
 use borrow.Author.Rules.{rules}
 use Rattle.machine.proofs.runs.run_all_slots.Goals as goal
 

@@ -1,17 +1,15 @@
 -- `run_all_slots` takes one slot after the other: what is reached is the run so far, of every set whose numbers these are, and if rows are put those
 -- of the slots so far stand at the table's start. Assumes nothing.
 use mathlib.Core.Bool.{true}
-use mathlib.Core.Path.{◌≡◌, refl, ◌∙◌}
-use Prim.Native.Nat.{◌+◌, ◌-◌, ◌*◌, ◌≤◌, zero-le}
-use native.Mathlib.Omega.{arith}
+use mathlib.Core.Path.{◌≡◌}
+use Prim.Native.Nat.{◌-◌, ◌*◌, ◌≤◌}
 use lib.ListN.{length}
 use Rattle.model.specs.declared.kinds.FlowSet.{FlowSet}
 use Rattle.model.specs.declared.answers.Fault.{Fault}
-use Rattle.laws.specs.Loops.{SoFar, begins, goes_on, ends}
+use Rattle.laws.specs.Loops.{SoFar}
 use Rattle.machine.specs.LentArrays.{PerPlaced, links_of, numbers_of, run_arrays_of}
 use Rattle.machine.specs.RunSoFar.{RunSoFar, RunOfSome, counts_of}
-use Rattle.machine.specs.RowsPut.{RowsSoFar, all_put, no_rows, rows_fit, rows_if_put, rows_more_law}
-use borrow.Author.Rules.{rules}
+use Rattle.machine.specs.RowsPut.{RowsSoFar}
 use Rattle.machine.proofs.runs.run_all_slots.Given as goal
 
 abbrev pub invariant-loop-t : goal.invariant-loop-t

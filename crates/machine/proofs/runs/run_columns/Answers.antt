@@ -1,15 +1,12 @@
 -- `run_columns` begins a run and runs its slots. Assumes nothing.
 use mathlib.Core.Path.{refl, ◌∙◌}
 use Prim.Native.Nat.{◌<◌, ◌^◌}
-use lib.ListN.{replicate}
-use Rattle.model.specs.Limits.{most_channels, most_flows}
+use Rattle.model.specs.Limits.{most_channels}
 use Rattle.model.specs.Sets.{used}
-use Rattle.document.specs.Reader.{record_fault}
 use Rattle.document.specs.Machine.{order_of}
 use Rattle.document.specs.Superframe.{flat, rows_to_with}
-use Rattle.machine.specs.LentArrays.{links_of, numbers_of, run_arrays_of}
 use Rattle.machine.specs.PacketNumbers.{accepted_count}
-use Rattle.machine.specs.RunSoFar.{RunSoFar, counts_of, run_before_first}
+use Rattle.machine.specs.RunSoFar.{run_before_first}
 use Rattle.machine.specs.RowsPut.{sets_at_start}
 use borrow.Author.Rules.{rules}
 use Rattle.machine.proofs.runs.run_columns.Goals as goal

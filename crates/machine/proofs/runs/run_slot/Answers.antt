@@ -3,7 +3,6 @@ use Rattle.machine.specs.PacketNumbers.{accepted_count}
 use Rattle.machine.specs.SlotByColumns.{sent_le, ready_short}
 use Rattle.machine.specs.RunSoFar.{slot_order, slot_idle, slot_placed}
 use native.Mathlib.Omega.{arith}
-use Prim.{tt}
 use Rattle.machine.proofs.runs.run_slot.Goals as goal
 
 pub release_packets-at-requires : goal.release_packets-at-requires

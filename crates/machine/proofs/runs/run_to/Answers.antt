@@ -1,7 +1,6 @@
 -- `run_to` takes the set's numbers into arrays and runs it. Assumes nothing.
 use mathlib.Core.Path.{refl}
 use Rattle.machine.specs.SlotByColumns.{after_numbers}
-use borrow.Author.Rules.{rules}
 use Rattle.machine.proofs.runs.run_to.Goals as goal
 
 pub columns_of-requires : goal.columns_of-requires
