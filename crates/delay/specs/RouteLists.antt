@@ -86,7 +86,7 @@ listed_next s k routes l t r x y h o e f g =
 
 module _ (s : FlowSet) (a : Accepted (used s)) (routes : List (List ℕ)) (l t : List ℕ) (o : ListedTo s s.count routes l t) where
   -- the arrays of an accepted set
-  listed_small : s.count ≤ most_flows → Listed s.count routes l t
+  pub listed_small : s.count ≤ most_flows → Listed s.count routes l t
   listed_small f =
       record {
         few = f;

@@ -17,7 +17,7 @@ pub fn joined_bound(c: u16, x: u32, w: u32, m: u32) -> u32
     (c as u32) + x + (w - x) / m
 }
 
-// What a list adds to the sums of typeof.q.S and of typeof.q.C of a flow.
+// What a list adds to the sums of q·S and of q·C of a flow.
 #[derive(Clone, Copy)]
 struct RemainderSums {
     conflict: u16,

@@ -56,7 +56,7 @@ fn packets_first(
     rounded_up(slots, period[l])
 }
 
-// The work of n packets: typeof.n.S or typeof.n.C, at most D + bound + C, so 65,535 + 65,535 + 64.
+// The work of n packets: n·S or n·C, at most D + bound + C, so 65,535 + 65,535 + 64.
 fn work_of_packets(n: u32, each: u16) -> u32
     requires { n * each ≤ 131134 }
     ensures { (result ≡ n * each) × (result ≤ 131134) }
@@ -64,14 +64,14 @@ fn work_of_packets(n: u32, each: u16) -> u32
     n * (each as u32)
 }
 
-// The sums of typeof.n.S and typeof.n.C over the flows that go first.
+// The sums of n·S and n·C over the flows that go first.
 #[derive(Clone, Copy)]
 struct FirstSums {
     conflict: u32,
     whole: u32,
 }
 
-// The sums of typeof.n.S and typeof.n.C over the flows below k.
+// The sums of n·S and n·C over the flows below k.
 fn first_sums(
     k: usize,
     period: &[u16; Flow::MOST],

@@ -1,4 +1,4 @@
-// What no round changes in the shares of document 01's delay tests: q and r of a deadline and a period, and the sums of typeof.q.S and typeof.q.C over the
+// What no round changes in the shares of document 01's delay tests: q and r of a deadline and a period, and the sums of q·S and q·C over the
 // other flows.
 ghost use Rattle.std.specs.Prelude.{◌%◌, ◌*◌, ◌-◌, ◌/◌, ◌<◌, ◌≤◌, min, ℕ, ◌≡◌, cond, eqb, get_or, length};
 ghost use Rattle.model.specs.Sets.{used};
@@ -97,7 +97,7 @@ fn left_over(deadline: u16, period: u16) -> u16
     deadline % period
 }
 
-// κ times a number of links, or the work of q packets: typeof.q.S or typeof.q.C.
+// κ times a number of links, or the work of q packets: q·S or q·C.
 pub fn times(q: u16, count: u16) -> u32
     requires { (q ≤ 65535) × (count ≤ 64) }
     ensures { (result ≡ q * count) × (result ≤ 4194240) }
@@ -105,14 +105,14 @@ pub fn times(q: u16, count: u16) -> u32
     (q as u32) * (count as u32)
 }
 
-// The sums of typeof.q.S and typeof.q.C over the flows other than one.
+// The sums of q·S and q·C over the flows other than one.
 #[derive(Clone, Copy)]
 struct PacketSums {
     conflict: u32,
     work: u32,
 }
 
-// The sums of typeof.q.S and typeof.q.C for flow k, whose own q is 0.
+// The sums of q·S and q·C for flow k, whose own q is 0.
 fn packet_sums(
     k: usize,
     conflict: &[u16; conflicts::PAIRS],
@@ -138,7 +138,7 @@ fn packet_sums(
     }
 }
 
-// r of flow k and the other flows, in row k, and the sums of typeof.q.S and typeof.q.C over them.
+// r of flow k and the other flows, in row k, and the sums of q·S and q·C over them.
 fn shares_of_flow<'a>(
     k: usize,
     n: usize,
@@ -162,7 +162,7 @@ fn shares_of_flow<'a>(
     packet_sums(k, conflict, work, q)
 }
 
-// r of every pair of flows, and the sums of typeof.q.S and typeof.q.C for every flow.
+// r of every pair of flows, and the sums of q·S and q·C for every flow.
 pub fn shares_of_flows<'a>(
     n: usize,
     period: &'a [u16; Flow::MOST],

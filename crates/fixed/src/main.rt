@@ -6,7 +6,6 @@ ghost use Rattle.document.specs.Reader.{wrote};
 ghost use Rattle.document.specs.Fixed.{fixed_text};
 ghost use Rattle.plan_text.specs.PlanOfReading.{most_plan};
 
-use libc::{STDERR_FILENO, STDOUT_FILENO};
 use model::Written;
 use standard_input::{Input, read_input};
 
@@ -20,30 +19,28 @@ fn whole_text(input: &[u8], out: &mut [u8]) -> Written
 }
 
 // Writes the text for an input to standard output. That it has room is proved; if it had not, the program would say so.
-fn print_text(input: &[u8]) {
+fn print_text(rt: &(impl Print + Eprint), input: &[u8]) {
     let mut out = [0u8; plan_text::MOST_PLAN];
     let w = whole_text(input, &mut out);
     let fault = w.fault;
     if fault.refuses() {
-        io::write_all(
-            STDERR_FILENO,
-            b"fixed: the text is longer than its buffer\n",
-        );
+        let _ = eprintln!(rt; "fixed: the text is longer than its buffer");
         return;
     }
     let m = w.length;
-    if !io::write_all(STDOUT_FILENO, &out[..m]) {
-        os::fail(b"fixed: cannot write standard output");
+    if let Err(error) = rt.write_all(&out[..m]) {
+        let _ = eprintln!(rt; "fixed: cannot write standard output: {error}");
     }
 }
 
 // An input that cannot be read to its end gives no text.
-fn main() {
+fn main(rt: HostRuntime) {
     let mut input = [0u8; plan_text::MOST_INPUT + 1];
-    let read = read_input(&mut input);
-    let Input::Whole(n) = read else {
-        os::fail(b"fixed: cannot read standard input");
-        return;
-    };
-    print_text(&input[..n]);
+    let read = read_input(&mut rt.stdin(), &mut input);
+    match read {
+        Input::Whole(n) => print_text(&rt, &input[..n]),
+        Input::Failed(error) => {
+            let _ = eprintln!(rt; "fixed: cannot read standard input: {error}");
+        }
+    }
 }

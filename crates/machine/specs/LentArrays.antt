@@ -1,8 +1,6 @@
--- Arrays that are lent together, each group as one record of lists. A clause builds the record of what was lent at a function's entry (`..At`) or of
--- what is left at its exit (`..After`); definitions and laws speak of the record.
+-- Arrays that are lent together, each group as one record of lists. A clause builds the record of what is lent (`.now`, or `.old` of
+-- what may be written) or of what is left (`.new`); definitions and laws speak of the record.
 use Rattle.std.specs.Prelude.{List, ℕ, length, ◌≡◌}
-use Rattle.std.specs.Borrow.{Bor}
-use denote.Triple.Both.{Both}
 use Rattle.model.specs.Limits.{most_channels, most_flows}
 
 -- an array with an entry for each flow that a set can have, and one with an entry for each packet that can be placed
@@ -11,10 +9,6 @@ PerFlow l = length l ≡ most_flows
 
 abbrev pub PerPlaced : {A : Type 0} → List A → Type 0
 PerPlaced l = length l ≡ most_channels
-
--- a lent array, as an ensures clause has it: at entry and at exit
-abbrev pub Lent : Type 0 → Type 0
-Lent A = Both (Bor A) (Bor A)
 
 -- the numbers of each flow that its releases and deadlines are made of, and C: start, period, deadline, work
 pub record Numbers : Type 0 where
@@ -26,9 +20,6 @@ pub record Numbers : Type 0 where
 abbrev pub numbers_of : List ℕ → List ℕ → List ℕ → List ℕ → Numbers
 numbers_of start period deadline work = record { start = start; period = period; deadline = deadline; work = work }
 
-abbrev pub numbers_at : Lent (List ℕ) → Lent (List ℕ) → Lent (List ℕ) → Lent (List ℕ) → Numbers
-numbers_at start period deadline work = numbers_of start.entry.now period.entry.now deadline.entry.now work.entry.now
-
 -- what rule 3 takes each flow's links from: the tries of a link, and the route
 pub record Links : Type 0 where
   pub tries : List ℕ
@@ -36,9 +27,6 @@ pub record Links : Type 0 where
 
 abbrev pub links_of : List ℕ → List (List ℕ) → Links
 links_of tries routes = record { tries = tries; routes = routes }
-
-abbrev pub links_at : Lent (List ℕ) → Lent (List (List ℕ)) → Links
-links_at tries routes = links_of tries.entry.now routes.entry.now
 
 -- what rule 2 asks of each flow's packet: the start, the absolute deadline, what it has had, and C
 pub record Packets : Type 0 where
@@ -50,9 +38,6 @@ pub record Packets : Type 0 where
 abbrev pub packets_of : List ℕ → List ℕ → List ℕ → List ℕ → Packets
 packets_of start due sent work = record { start = start; due = due; sent = sent; work = work }
 
-abbrev pub packets_at : Lent (List ℕ) → Lent (List ℕ) → Lent (List ℕ) → Lent (List ℕ) → Packets
-packets_at start due sent work = packets_of start.entry.now due.entry.now sent.entry.now work.entry.now
-
 -- what a release changes of each flow: the absolute deadline, the next release, and what its packet has had
 pub record Releases : Type 0 where
   pub due : List ℕ
@@ -61,12 +46,6 @@ pub record Releases : Type 0 where
 
 abbrev pub releases_of : List ℕ → List ℕ → List ℕ → Releases
 releases_of due next sent = record { due = due; next = next; sent = sent }
-
-abbrev pub releases_at : Lent (List ℕ) → Lent (List ℕ) → Lent (List ℕ) → Releases
-releases_at due next sent = releases_of due.entry.now next.entry.now sent.entry.now
-
-abbrev pub releases_after : Lent (List ℕ) → Lent (List ℕ) → Lent (List ℕ) → Releases
-releases_after due next sent = releases_of due.exit.now next.exit.now sent.exit.now
 
 -- what a run keeps from slot to slot: what a release changes, the order of the packets, the soonest release and how many of the order wait
 pub record RunArrays : Type 0 where
@@ -80,14 +59,6 @@ pub record RunArrays : Type 0 where
 abbrev pub run_arrays_of : List ℕ → List ℕ → List ℕ → List ℕ → ℕ → ℕ → RunArrays
 run_arrays_of due next sent order soonest waiting =
     record { due = due; next = next; sent = sent; order = order; soonest = soonest; waiting = waiting }
-
-abbrev pub run_arrays_at : Lent (List ℕ) → Lent (List ℕ) → Lent (List ℕ) → Lent (List ℕ) → ℕ → ℕ → RunArrays
-run_arrays_at due next sent order soonest waiting =
-    run_arrays_of due.entry.now next.entry.now sent.entry.now order.entry.now soonest waiting
-
-abbrev pub run_arrays_after : Lent (List ℕ) → Lent (List ℕ) → Lent (List ℕ) → Lent (List ℕ) → ℕ → ℕ → RunArrays
-run_arrays_after due next sent order soonest waiting =
-    run_arrays_of due.exit.now next.exit.now sent.exit.now order.exit.now soonest waiting
 
 abbrev pub releases_in : RunArrays → Releases
 releases_in run = releases_of run.due run.next run.sent
@@ -105,13 +76,6 @@ pub record Placing : Type 0 where
 
 abbrev pub placing_of : List ℕ → List ℕ → List ℕ → List ℕ → ℕ → Placing
 placing_of from to chosen marked placed = record { from = from; to = to; chosen = chosen; marked = marked; placed = placed }
-
-abbrev pub placing_at : Lent (List ℕ) → Lent (List ℕ) → Lent (List ℕ) → Lent (List ℕ) → ℕ → Placing
-placing_at from to chosen marked placed =
-    placing_of from.entry.now to.entry.now chosen.entry.now marked.entry.now placed
-
-abbrev pub placing_after : Lent (List ℕ) → Lent (List ℕ) → Lent (List ℕ) → Lent (List ℕ) → ℕ → Placing
-placing_after from to chosen marked placed = placing_of from.exit.now to.exit.now chosen.exit.now marked.exit.now placed
 
 -- a slot whose packets are placed: what rules 5 and 6 make its answer from
 pub record SlotArrays : Type 0 where

@@ -3,7 +3,7 @@
 ghost use Rattle.std.specs.Prelude.{◌≡◌, [], ◌∷◌, ◌%◌, ◌+◌, ◌-◌, ◌/◌, ◌<◌, ◌≤◌, ℕ, drop, get_or, set, not};
 ghost use Rattle.model.specs.Sets.{meet};
 ghost use Rattle.model.specs.Limits.{most_channels, most_flows};
-ghost use Rattle.machine.specs.LentArrays.{PerFlow, PerPlaced, links_at, links_of, packets_at, placing_after, placing_at};
+ghost use Rattle.machine.specs.LentArrays.{PerFlow, PerPlaced, links_of, packets_of, placing_of};
 ghost use Rattle.machine.specs.PlacedChoice.{Choice, choice_by, clash_ends, place_if};
 ghost use Rattle.machine.specs.LinkColumns.{Busy, LinkThere, LinksThere, end_at, from_at, link_in};
 ghost use Rattle.machine.specs.PacketNumbers.{ready_by};
@@ -54,7 +54,7 @@ pub fn ends_of(
     routes: &[[u16; Flow::MOST_NODES]; Flow::MOST],
 ) -> Ends
     requires { (k < most_flows) × LinkThere (links_of tries.now routes.now) k n }
-    ensures { (result.from ≡ from_at (links_at tries routes) k n) × (result.to ≡ end_at (links_at tries routes) k n 1) }
+    ensures { (result.from ≡ from_at (links_of tries.now routes.now) k n) × (result.to ≡ end_at (links_of tries.now routes.now) k n 1) }
 {
     let i = ((n as u16) / tries[k]) as usize;
     let j = i + 1;
@@ -121,8 +121,8 @@ fn place_if_free(
     marked: &mut [u8; Flow::MOST],
 ) -> usize
     requires { (k < most_flows) × (placed < most_channels) × Busy busy.old from.old to.old placed × PerPlaced from.old × PerPlaced to.old }
-    ensures one { placing_after from to chosen marked result ≡ place_if
-        (not (clash_ends a.from a.to from.old to.old placed)) k a.from a.to (placing_at from to chosen marked placed) }
+    ensures one { placing_of from.new to.new chosen.new marked.new result ≡ place_if
+        (not (clash_ends a.from a.to from.old to.old placed)) k a.from a.to (placing_of from.old to.old chosen.old marked.old placed) }
     ensures busy { Busy busy.new from.new to.new result }
 {
     if shares_with_placed(a, from, to, busy, placed) {
@@ -155,8 +155,8 @@ fn place_if_ready(
 ) -> usize
     requires k_lt_most_flows { (k < most_flows) × (placed < most_channels) × Busy busy.old from.old to.old placed × PerPlaced from.old × PerPlaced to.old }
     requires link_there { get_or sent.now k 0 < get_or work.now k 0 → LinkThere (links_of tries.now routes.now) k (get_or sent.now k 0) }
-    ensures one { placing_after from to chosen marked result ≡ judge
-        sent.now (links_at tries routes) (ready_by (packets_at start due sent work) t k) k (placing_at from to chosen marked placed) }
+    ensures one { placing_of from.new to.new chosen.new marked.new result ≡ judge
+        sent.now (links_of tries.now routes.now) (ready_by (packets_of start.now due.now sent.now work.now) t k) k (placing_of from.old to.old chosen.old marked.old placed) }
     ensures busy { Busy busy.new from.new to.new result }
 {
     if is_ready(Slot(start[k]), Slot(due[k]), sent[k], work[k], Slot(t)) {
@@ -186,7 +186,7 @@ pub fn choose(
     requires by_index { (k : ℕ) → get_or marked.old k 0 ≡ 0 }
     requires flows_to { FlowsTo order.now waiting }
     requires links_there { LinksThere sent.now work.now (links_of tries.now routes.now) }
-    ensures choice { Choice (choice_by ways t (packets_at start due sent work) (link_in sent.now (links_at tries routes)) order.now waiting)
+    ensures choice { Choice (choice_by ways t (packets_of start.now due.now sent.now work.now) (link_in sent.now (links_of tries.now routes.now)) order.now waiting)
         chosen.new marked.new result }
     ensures rest { drop result chosen.new ≡ drop result chosen.old }
 {

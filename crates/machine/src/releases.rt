@@ -1,7 +1,7 @@
 // The releases of a run's slot. Beside each flow's absolute deadline a run keeps the flow's next release, so that a slot without a release
 // costs one comparison and one with a release divides nothing.
 ghost use Rattle.std.specs.Prelude.{◌≡◌, ◌+◌, ◌<◌, ◌≤◌, min, ℕ, get_or};
-ghost use Rattle.machine.specs.LentArrays.{PerFlow, numbers_at, packets_of, releases_after, releases_at, run_arrays_after, run_arrays_at};
+ghost use Rattle.machine.specs.LentArrays.{PerFlow, numbers_of, packets_of, releases_of, run_arrays_of};
 ghost use Rattle.machine.specs.NextReleases.{NoneBefore, Released};
 ghost use Rattle.model.specs.Limits.{last_slot, most_flows};
 ghost use Rattle.machine.specs.RunSlots.{AfterReleases, WaitingInOrder};
@@ -29,7 +29,7 @@ fn release(
 ) -> Slot
     requires count_le_most_flows { (count ≤ most_flows) × (t ≤ last_slot) × PerFlow due.old × PerFlow next.old × PerFlow sent.old }
     requires by_index { (k : ℕ) → (get_or period.now k 0 ≤ 65535) × (get_or deadline.now k 0 ≤ 65535) }
-    ensures released { Released count t period.now deadline.now (releases_at due next sent) (releases_after due next sent) }
+    ensures released { Released count t period.now deadline.now (releases_of due.old next.old sent.old) (releases_of due.new next.new sent.new) }
     ensures soonest { NoneBefore count result.0 next.new }
 {
     let mut soonest = Slot(4294967295);
@@ -80,8 +80,8 @@ pub fn release_packets(
     requires by_index { (k : ℕ) → (get_or period.now k 0 ≤ 65535) × (get_or deadline.now k 0 ≤ 65535) }
     requires none_before { NoneBefore count soonest.0 next.old }
     requires waiting_in_order { t < soonest.0 → WaitingInOrder by count t (packets_of start.now due.old sent.old work.now) order.old waiting }
-    ensures { AfterReleases by count t (numbers_at start period deadline work)
-        (run_arrays_at due next sent order soonest.0 waiting) (run_arrays_after due next sent order result.soonest.0 result.waiting) }
+    ensures { AfterReleases by count t (numbers_of start.now period.now deadline.now work.now)
+        (run_arrays_of due.old next.old sent.old order.old soonest.0 waiting) (run_arrays_of due.new next.new sent.new order.new result.soonest.0 result.waiting) }
 {
     if t < soonest.0 {
         return UntilRelease { soonest, waiting };

@@ -2,7 +2,7 @@
 ghost use Rattle.std.specs.Prelude.{◌≡◌, ◌+◌, ◌<◌, ◌≤◌, min, ℕ, get_or, length, ◌⊎◌, true};
 ghost use Rattle.model.specs.Sets.{used};
 ghost use Rattle.machine.specs.ArrayLists.{Through};
-ghost use Rattle.machine.specs.LentArrays.{PerFlow, PerPlaced, links_at, links_of, numbers_at, numbers_of, packets_at, run_arrays_after, run_arrays_at, run_arrays_of};
+ghost use Rattle.machine.specs.LentArrays.{PerFlow, PerPlaced, links_of, numbers_of, packets_of, run_arrays_of};
 ghost use Rattle.machine.specs.ReadyOrder.{FlowsTo};
 ghost use Rattle.machine.specs.SlotAnswers.{count_by, delivered_to, dropped_to};
 ghost use Rattle.model.specs.Limits.{last_slot, most_channels, most_flows};
@@ -43,7 +43,7 @@ fn count_and_advance(
     requires count_le_most_flows { (count ≤ most_flows) × PerFlow sent.old }
     requires by_index { (k : ℕ) → (get_or sent.old k 0 ≤ 64) × (get_or marked.now k 0 ≤ 1) }
     ensures delivered { result.delivered ≡ length (delivered_to sent.old work.now marked.now count) }
-    ensures dropped { result.dropped ≡ length (dropped_to t (packets_at start due sent work) marked.now count) }
+    ensures dropped { result.dropped ≡ length (dropped_to t (packets_of start.now due.now sent.old work.now) marked.now count) }
     ensures counts { Through (count_by sent.old marked.now) count sent.old sent.new }
 {
     let mut delivered = 0;
@@ -99,7 +99,7 @@ fn count_slot(
     requires flows_to { FlowsTo order.now waiting }
     requires by_index { (k : ℕ) → get_or sent.old k 0 ≤ 64 }
     requires links_there { LinksThere sent.old work.now (links_of tries.now routes.now) }
-    ensures { AfterSlot count t ways (packets_at start due sent work) (links_at tries routes) order.now waiting
+    ensures { AfterSlot count t ways (packets_of start.now due.now sent.old work.now) (links_of tries.now routes.now) order.now waiting
         sent.new result.delivered result.dropped result.waiting chosen.new result.placed }
 {
     let mut marked = [0u8; Flow::MOST];
@@ -188,8 +188,8 @@ fn run_slot(
     requires { (t < last_slot) × RunOfSome by count ways t (numbers_of start.now period.now deadline.now work.now)
         (links_of tries.now routes.now) (run_arrays_of due.old next.old sent.old order.old soonest.0 waiting)
         × PerPlaced chosen.old }
-    ensures { SlotRuns by count ways t (numbers_at start period deadline work) (links_at tries routes)
-        (run_arrays_at due next sent order soonest.0 waiting) (run_arrays_after due next sent order result.soonest.0 result.waiting) result.delivered result.dropped
+    ensures { SlotRuns by count ways t (numbers_of start.now period.now deadline.now work.now) (links_of tries.now routes.now)
+        (run_arrays_of due.old next.old sent.old order.old soonest.0 waiting) (run_arrays_of due.new next.new sent.new order.new result.soonest.0 result.waiting) result.delivered result.dropped
         chosen.new result.placed }
 {
     let at = release_packets(
@@ -234,10 +234,10 @@ fn run_all_slots(
         (links_of tries.now routes.now) (run_arrays_of due.old next.old sent.old order.old 0 0) }
     requires rows_fit { put ≡ true → RowsFit by slots count ways (numbers_of start.now period.now deadline.now work.now) (links_of tries.now routes.now)
         (run_arrays_of due.old next.old sent.old order.old 0 0) (length table.old) }
-    ensures run { SlotsRun by slots count ways (numbers_at start period deadline work) (links_at tries routes)
-        (run_arrays_at due next sent order 0 0) sent.new result.delivered result.dropped }
-    ensures rows { put ≡ true → RowsOfSlots by slots count ways (numbers_at start period deadline work) (links_at tries routes)
-        (run_arrays_at due next sent order 0 0) table.old table.new }
+    ensures run { SlotsRun by slots count ways (numbers_of start.now period.now deadline.now work.now) (links_of tries.now routes.now)
+        (run_arrays_of due.old next.old sent.old order.old 0 0) sent.new result.delivered result.dropped }
+    ensures rows { put ≡ true → RowsOfSlots by slots count ways (numbers_of start.now period.now deadline.now work.now) (links_of tries.now routes.now)
+        (run_arrays_of due.old next.old sent.old order.old 0 0) table.old table.new }
 {
     let mut chosen = [0usize; ChannelMap::MOST];
     let mut soonest = Slot(0);

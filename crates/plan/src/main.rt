@@ -6,7 +6,6 @@ ghost use Rattle.document.specs.Reader.{wrote};
 ghost use Rattle.document.specs.Program.{text_of_plan};
 ghost use Rattle.plan_text.specs.PlanOfReading.{most_plan};
 
-use libc::{STDERR_FILENO, STDOUT_FILENO};
 use model::Written;
 use standard_input::{Input, read_input};
 
@@ -20,27 +19,28 @@ fn whole_plan(input: &[u8], out: &mut [u8]) -> Written
 }
 
 // Writes the plan of an input to standard output. That the plan has room is proved; if it had not, the program would say so.
-fn print_plan(input: &[u8]) {
+fn print_plan(rt: &(impl Print + Eprint), input: &[u8]) {
     let mut out = [0u8; plan_text::MOST_PLAN];
     let w = whole_plan(input, &mut out);
     let fault = w.fault;
     if fault.refuses() {
-        io::write_all(STDERR_FILENO, b"plan: the plan is longer than its buffer\n");
+        let _ = eprintln!(rt; "plan: the plan is longer than its buffer");
         return;
     }
     let m = w.length;
-    if !io::write_all(STDOUT_FILENO, &out[..m]) {
-        os::fail(b"plan: cannot write standard output");
+    if let Err(error) = rt.write_all(&out[..m]) {
+        let _ = eprintln!(rt; "plan: cannot write standard output: {error}");
     }
 }
 
 // An input that cannot be read to its end gives no plan.
-fn main() {
+fn main(rt: HostRuntime) {
     let mut input = [0u8; plan_text::MOST_INPUT + 1];
-    let read = read_input(&mut input);
-    let Input::Whole(n) = read else {
-        os::fail(b"plan: cannot read standard input");
-        return;
-    };
-    print_plan(&input[..n]);
+    let read = read_input(&mut rt.stdin(), &mut input);
+    match read {
+        Input::Whole(n) => print_plan(&rt, &input[..n]),
+        Input::Failed(error) => {
+            let _ = eprintln!(rt; "plan: cannot read standard input: {error}");
+        }
+    }
 }

@@ -4,7 +4,8 @@
 ghost use Rattle.std.specs.Prelude.{◌≡◌, length};
 ghost use Rattle.standard_input.specs.Reads.{CameWithin, came_of, InputWithin};
 
-use libc::STDIN_FILENO;
+use std::io;
+use std::io::{Error, ErrorKind, Read};
 
 // What one read did.
 #[derive(Clone, Copy)]
@@ -12,49 +13,47 @@ pub enum Came {
     Bytes(usize),
     End,
     Interrupted,
-    Broken,
+    Broken(Error),
 }
 
 // The whole input, or none of it.
 #[derive(Clone, Copy)]
 pub enum Input {
     Whole(usize),
-    Failed,
+    Failed(Error),
 }
 
 // What the answer of a read means: only 0 is the end.
-fn came_of(got: isize, error: i32) -> Came
-    ensures { result ≡ came_of got error }
+fn came_of(answer: io::Result<usize>) -> Came
+    ensures { result ≡ came_of answer }
 {
-    if got > 0 {
-        return Came::Bytes(got as usize);
+    match answer {
+        Ok(0) => Came::End,
+        Ok(n) => Came::Bytes(n),
+        Err(error) => match error.kind() {
+            ErrorKind::Interrupted => Came::Interrupted,
+            _ => Came::Broken(error),
+        },
     }
-    if got == 0 {
-        return Came::End;
-    }
-    if error != libc::EINTR {
-        return Came::Broken;
-    }
-    Came::Interrupted
 }
 
 // One read into the buffer's start.
-fn read_some(buf: &mut [u8]) -> Came
+fn read_some<R: Read>(input: &mut R, buf: &mut [u8]) -> Came
     ensures { CameWithin result (length buf.old) }
 {
-    let got = libc::read(STDIN_FILENO, buf);
-    came_of(got, os::errno())
+    let answer = input.read(buf);
+    came_of(answer)
 }
 
 // Reads until the input ends or the buffer is full. A read that a signal interrupts is made again; any other failed read leaves no input,
 // one that would have to wait (EAGAIN) too.
-pub fn read_input(buf: &mut [u8]) -> Input
+pub fn read_input<R: Read>(input: &mut R, buf: &mut [u8]) -> Input
     ensures { InputWithin result (length buf.new) }
 {
     let mut done: usize = 0;
     let mut turns = u64::MAX;
     while done < buf.len() {
-        let came = read_some(&mut buf[done..]);
+        let came = read_some(input, &mut buf[done..]);
         match came {
             Came::Bytes(n) => {
                 done += n;
@@ -64,12 +63,12 @@ pub fn read_input(buf: &mut [u8]) -> Input
             }
             Came::Interrupted => {
                 if turns == 0 {
-                    return Input::Failed;
+                    return Input::Failed(Error::from(ErrorKind::Interrupted));
                 }
                 turns -= 1;
             }
-            Came::Broken => {
-                return Input::Failed;
+            Came::Broken(error) => {
+                return Input::Failed(error);
             }
         }
     }

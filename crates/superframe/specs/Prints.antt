@@ -29,19 +29,19 @@ most_refusal = 48
 abbrev pub WholeTable : FlowSet → ℕ → Wrote → Type 0
 WholeTable s h (Parts n) = parts_text s h part_room n ≡ row_lines (rows_to s h)
 WholeTable s h Refusal = ⊥
-WholeTable s h Failed = Unit {0}
+WholeTable s h (Failed e) = Unit {0}
 
 -- no part
 abbrev pub NoTable : Wrote → Type 0
 NoTable (Parts n) = ⊥
 NoTable Refusal = Unit {0}
-NoTable Failed = Unit {0}
+NoTable (Failed e) = Unit {0}
 
 -- the parts of an input's table, or its refusal's line, are what the program prints
 abbrev pub Prints : List ℕ → Wrote → Type 0
 Prints input (Parts n) = parts_text (used (read_text input).set) (hyper (used (read_text input).set)) part_room n ≡ superframe_text input
 Prints input Refusal = refused_line (load_fault input) ≡ superframe_text input
-Prints input Failed = Unit {0}
+Prints input (Failed e) = Unit {0}
 
 -- ---- a turn of the loop: the state is that after the parts so far
 
@@ -75,7 +75,7 @@ module _ (input : List ℕ) (r : Loaded) (l : Loads input r) (w : Wrote) where
       go : (w : Wrote) → NoTable w → Prints input w
       go (Parts n) h = absurd h
       go Refusal h = prints_refusal input (rw (← l.fault) b)
-      go Failed h = tt
+      go (Failed e) h = tt
 
   pub table_prints : good r.fault.refusal ≡ true → WholeTable (used r.set) r.hyper w → Prints input w
   table_prints g h = go w (rw (l.slots g, l.set g) at h)
@@ -83,7 +83,7 @@ module _ (input : List ℕ) (r : Loaded) (l : Loads input r) (w : Wrote) where
       go : (w : Wrote) → WholeTable (used (read_text input).set) (hyper (used (read_text input).set)) w → Prints input w
       go (Parts n) h = h ∙ prints_table input (load_good l g)
       go Refusal h = absurd h
-      go Failed h = tt
+      go (Failed e) h = tt
 
 -- a refusal's line has room
 pub refusal_left : (f : Fault) (n : ℕ) → n ≡ refusal_number f.refusal → {o out : List ℕ} {r : ℕ} → most_refusal ≤ length o

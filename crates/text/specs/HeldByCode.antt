@@ -1,7 +1,6 @@
 -- A record as the code holds it: its arrays have their lengths, and its numbers have 16 bits.
-use Rattle.std.specs.Prelude.{◌≡◌, ℕ, zero, suc, ◌<◌, ◌≤◌, true, List, [], ◌∷◌, map, length, slice_index, slice_index_or, refl}
+use Rattle.std.specs.Prelude.{◌≡◌, ℕ, zero, suc, ◌<◌, ◌≤◌, true, List, [], ◌∷◌, length, slice_index, slice_index_or, refl}
 use Rattle.std.proofs.Common.{arith, le-leb, rules}
-use Rattle.std.proofs.lemmas.List.{length-map}
 use Rattle.std.specs.Int.{w16}
 use mir.Val.{Val, Fits}
 use denote.Array.{each}
@@ -50,7 +49,7 @@ flow_held f u g =
 
 -- each flow of an array
 flows_held : (fs : List Flow) (us : List Val)
-    → shadow (each (flow.the_field).row.Denot (flow.the_field).row.own_val (map (flow.the_type).to fs) us)
+    → shadow (each (flow.the_row).Denot (flow.the_row).own_val fs us)
     → (k : ℕ) → k < length fs → HeldFlow (slice_index_or fs k no_flow)
 flows_held [] us g k h = absurd (omega arith)
 flows_held (f ∷ fs) [] g k h = absurd g
@@ -59,5 +58,5 @@ flows_held (f ∷ fs) (u ∷ us) g (suc k) h = flows_held fs us g.1 k (omega ari
 
 pub set_held : (s : FlowSet) (u : List Val) → shadow ((set.the_row).own_val s u) → HeldRecord s
 set_held s u g =
-    let n : length s.flows ≡ most_flows = simp length-map at g.1.1.1.1.0.1.0.1 in
+    let n : length s.flows ≡ most_flows = search rules in
     record { flows_are = n; map_fits = omega arith; flow_is = λ k h. flows_held s.flows _ g.1.1.1.1.0.1.1 k (omega (arith, n)) }

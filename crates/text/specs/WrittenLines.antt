@@ -1,5 +1,5 @@
 -- A line and its word and numbers: each gives the other back.
-use Rattle.std.specs.Prelude.{◌≡◌, ℕ, zero, suc, ◌+◌, ◌≤◌, Bool, true, false, not, ◌&&◌, List, [], ◌∷◌, ◌++◌, ◌==◌, nat_le, slice_index, refl}
+use Rattle.std.specs.Prelude.{◌≡◌, ℕ, zero, suc, ◌≤◌, Bool, true, false, not, ◌&&◌, List, [], ◌∷◌, ◌++◌, ◌==◌, nat_le, slice_index, refl}
 use Rattle.std.proofs.Common.{sym, ap, ◌∙◌, append_assoc, zero-le, eq-eqb, leb-true}
 use Rattle.std.proofs.lemmas.Bool.{false≢true, not-true}
 use Rattle.document.specs.Text.{same, lines, ended, fields, first_of, others_of, is_digit, all_digits, plain, is_number, all_numbers, values_of, value_of, well_formed, numbers_of, decimal, tabbed, decimals, line_of}

@@ -1,5 +1,5 @@
 -- What is written of a set that passes the record check is read as the same set, and the entries that don't count come back 0.
-use Rattle.std.specs.Prelude.{◌≡◌, ℕ, zero, suc, ◌+◌, ◌-◌, ◌<◌, ◌≤◌, true, leb, List, [], ◌∷◌, ◌++◌, map, length, take, set, nat_le, slice_index, slice_index_or, refl}
+use Rattle.std.specs.Prelude.{◌≡◌, ℕ, zero, suc, ◌+◌, ◌-◌, ◌<◌, ◌≤◌, true, leb, List, [], ◌∷◌, ◌++◌, length, take, nat_le, slice_index, slice_index_or, refl}
 use Rattle.std.proofs.Common.{sym, subst, ◌∙◌, append-nil, append_assoc, add-zero, length-take-le}
 use Rattle.std.proofs.Math.Path.{ap}
 use Prim.Native.Nat.{zero-le}

@@ -1,0 +1,44 @@
+use native.Mathlib.Nat.{le_trans}
+use native.Mathlib.Omega.{arith}
+use Rattle.delay.specs.FirstShares.{first_sums_start, first_sums_next, share_small, conflict_small}
+use Rattle.laws.specs.Loops.{begins, goes_on, ends}
+use borrow.Author.Rules.{rules}
+use Rattle.delay.proofs.fixed.first_sums.Goals as goal
+
+pub packets_first-n-requires : goal.packets_first-n-requires
+packets_first-n-requires c =
+    let o = c.requires.1 in
+    let l = c.loop-l.l in record { k_lt_most_flows = (search rules, omega arith); nonzero = (o.deadline_pos, o.period_pos l c.loop-l-test.true, o.bound_le l c.loop-l-test.true) }
+
+pub work_of_packets-x-requires : goal.work_of_packets-x-requires
+work_of_packets-x-requires c =
+    let o = c.requires.1 in
+    let n = c.packets_first-n.ensures in
+    let h = c.loop-l-test.true in
+    le_trans (conflict_small _ _ _ _ _ _ _ o h _ n) (share_small _ _ _ _ _ _ _ o h _ n)
+
+pub overflow_add-x : goal.overflow_add-x
+overflow_add-x c =
+    let s = c.loop-l.invariant.holds in
+    omega (arith, c.requires.0, c.loop-l.invariant.within, s.conflict_le, s.whole_le, c.work_of_packets-x.ensures.1)
+
+pub work_of_packets-w-requires : goal.work_of_packets-w-requires
+work_of_packets-w-requires c =
+    share_small _ _ _ _ _ _ _ c.requires.1 c.loop-l-test.true _ c.packets_first-n.ensures
+
+pub overflow_add-w : goal.overflow_add-w
+overflow_add-w c =
+    omega (arith, c.requires.0, c.loop-l.invariant.within, c.loop-l.invariant.holds.whole_le, c.work_of_packets-w.ensures.1)
+
+pub loop-l-preserved : goal.loop-l-preserved
+loop-l-preserved c =
+    let h = c.loop-l-test.true in
+    goes_on h
+    (first_sums_next _ _ _ _ _ _ _ c.requires.1 h _ c.packets_first-n.ensures _ _ _ _
+    c.loop-l.invariant.holds c.work_of_packets-x.ensures.0 c.work_of_packets-w.ensures.0)
+
+pub returns : goal.returns
+returns c = ends c.loop-l.invariant (omega (arith, c.loop-l-test.false))
+
+pub loop-l-init : goal.loop-l-init
+loop-l-init c = begins (first_sums_start _ _ _ _ _ _)
