@@ -1,5 +1,4 @@
 -- `fixed_step` is the step by flow number, after what the record check says. Assumes nothing.
-use borrow.Author.Rules.{rules}
 use Rattle.machine.proofs.fixed_step.Goals as goal
 
 pub step_after-requires : goal.step_after-requires

@@ -1,5 +1,4 @@
 -- `step` is the step by absolute deadline, after what the record check says. Assumes nothing.
-use borrow.Author.Rules.{rules}
 use Rattle.machine.proofs.step.Goals as goal
 
 pub step_after-requires : goal.step_after-requires
