@@ -1,5 +1,5 @@
--- `fixed_step` is the step by flow number, after what the record check says. Assumes nothing.
-use Rattle.machine.proofs.fixed_step.Goals as goal
+-- A step is the step after what the record check says.
+use Rattle.machine.proofs.step_by.Goals as goal
 
 pub step_after-requires : goal.step_after-requires
 step_after-requires c = c.record_fault-fault.ensures
