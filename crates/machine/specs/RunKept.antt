@@ -11,8 +11,8 @@ use Rattle.document.specs.Machine.{Priority, ahead, lower, run_with, run_of}
 use Rattle.document.specs.Fixed.{fixed_run, fixed_verdict_of}
 use Rattle.machine.specs.States.{run_cut}
 use Rattle.promise.specs.Promise.{Admitted}
-use Rattle.promise.specs.Demand.{admitted_good, run_keeps}
-use Rattle.promise.specs.FixedPromise.{fixed_good, fixed_run_keeps}
+use Rattle.promise.proofs.Demand.{admitted_good, run_keeps}
+use Rattle.promise.proofs.FixedPromise.{fixed_good, fixed_run_keeps}
 
 -- a run beyond the last slot changes nothing more, so what drops nothing up to there drops nothing
 dropped_cut : (first : Priority) (s : FlowSet) → good (record_fault s).refusal ≡ true → (budget : ℕ)

@@ -27,8 +27,7 @@ use model::{
 pub use superframes::superframe_numbers;
 
 // Both verdicts of the set in `text`; a text that is refused has the reader's refusal, line and field, and zeros.
-#[unsafe(no_mangle)]
-pub extern "C" fn rembasuk_verdict(text: &[u8]) -> VerdictAnswer
+pub fn rembasuk_verdict(text: &[u8]) -> VerdictAnswer
     ensures { result ≡ verdict_for_c text.now }
 {
     let reading = text::read(text);
@@ -37,8 +36,7 @@ pub extern "C" fn rembasuk_verdict(text: &[u8]) -> VerdictAnswer
 }
 
 // The bounds of one flow of the set in `text`: the text's refusals, then 13.
-#[unsafe(no_mangle)]
-pub extern "C" fn rembasuk_bounds(text: &[u8], flow: u32) -> BoundsAnswer
+pub fn rembasuk_bounds(text: &[u8], flow: u32) -> BoundsAnswer
     ensures { result ≡ bounds_for_c text.now flow }
 {
     let reading = text::read(text);
@@ -48,8 +46,7 @@ pub extern "C" fn rembasuk_bounds(text: &[u8], flow: u32) -> BoundsAnswer
 
 // The bounds of all flows of the set in `text`, the rounds made once: C, basic, tightened and deadline of each flow at the start of `table`.
 // The text's refusals, then 10; a refusal changes nothing.
-#[unsafe(no_mangle)]
-pub extern "C" fn rembasuk_all_bounds(text: &[u8], table: &mut [u32]) -> TableAnswer
+pub fn rembasuk_all_bounds(text: &[u8], table: &mut [u32]) -> TableAnswer
     ensures value { result ≡ all_bounds_for_c text.now (length table.old) }
     ensures table_after_is { table.new ≡ table_after (read_text text.now) table.old }
 {
@@ -60,8 +57,7 @@ pub extern "C" fn rembasuk_all_bounds(text: &[u8], table: &mut [u32]) -> TableAn
 
 // One slot of the set in `text`: the next state over the 68 bytes, the slot's `send` lines at the start of `lines`.
 // The text's refusals, then 12, 11 and 10; a refusal changes neither.
-#[unsafe(no_mangle)]
-pub extern "C" fn rembasuk_slot(text: &[u8], state: &mut [u8], lines: &mut [u8]) -> SlotAnswer
+pub fn rembasuk_slot(text: &[u8], state: &mut [u8], lines: &mut [u8]) -> SlotAnswer
     ensures value { result ≡ slot_for_c text.now state.old (length lines.old) }
     ensures state_after_is { state.new ≡ slot_state (read_text text.now) state.old (length lines.old) }
     ensures lines_after { lines.new ≡ slot_buffer (read_text text.now) state.old lines.old }
@@ -70,8 +66,7 @@ pub extern "C" fn rembasuk_slot(text: &[u8], state: &mut [u8], lines: &mut [u8])
 }
 
 // How long the superframe of the set in `text` is: its slots, and the numbers that its table needs. The text's refusals, then 14, 15, 16.
-#[unsafe(no_mangle)]
-pub extern "C" fn rembasuk_superframe_size(text: &[u8]) -> SuperframeAnswer
+pub fn rembasuk_superframe_size(text: &[u8]) -> SuperframeAnswer
     ensures { result ≡ size_for_c text.now }
 {
     let reading = text::read(text);
@@ -81,8 +76,7 @@ pub extern "C" fn rembasuk_superframe_size(text: &[u8]) -> SuperframeAnswer
 
 // The superframe of the set in `text`: slot, flow, transmission number and offset of each transmission of one hyper-period at the start of `table`.
 // The text's refusals, then 14, 15, 16 and 10; a refusal changes nothing.
-#[unsafe(no_mangle)]
-pub extern "C" fn rembasuk_superframe(text: &[u8], table: &mut [u16]) -> SuperframeAnswer
+pub fn rembasuk_superframe(text: &[u8], table: &mut [u16]) -> SuperframeAnswer
     ensures value { result ≡ superframe_for_c text.now (length table.old) }
     ensures table_after_is { table.new ≡ superframe_after (read_text text.now) table.old }
 {
@@ -92,8 +86,7 @@ pub extern "C" fn rembasuk_superframe(text: &[u8], table: &mut [u16]) -> Superfr
 }
 
 // The lines of a table's whole rows at the start of `lines`, or 10; a refusal changes nothing.
-#[unsafe(no_mangle)]
-pub extern "C" fn rembasuk_table_write(table: &[u16], lines: &mut [u8]) -> LinesAnswer
+pub fn rembasuk_table_write(table: &[u16], lines: &mut [u8]) -> LinesAnswer
     ensures value { result ≡ write_table_for_c table.now (length lines.old) }
     ensures lines_after { lines.new ≡ write_table_into table.now lines.old }
 {
@@ -102,8 +95,7 @@ pub extern "C" fn rembasuk_table_write(table: &[u16], lines: &mut [u8]) -> Lines
 }
 
 // The rows of a table's lines at the start of `table`: 1 with the line for form or order, then 10; a refusal changes nothing.
-#[unsafe(no_mangle)]
-pub extern "C" fn rembasuk_table_read(lines: &[u8], table: &mut [u16]) -> RowsAnswer
+pub fn rembasuk_table_read(lines: &[u8], table: &mut [u16]) -> RowsAnswer
     ensures value { result ≡ read_table_for_c lines.now (length table.old) }
     ensures table_after_is { table.new ≡ read_table_into lines.now table.old }
 {
@@ -112,16 +104,14 @@ pub extern "C" fn rembasuk_table_read(lines: &[u8], table: &mut [u16]) -> RowsAn
 }
 
 // The radio channel of an offset in a slot, by which a device sends that repeats a table; 0 where `map` is 0 or above 65,535.
-#[unsafe(no_mangle)]
-pub extern "C" fn rembasuk_channel(map: u32, slot: u32, offset: u32) -> u32
+pub fn rembasuk_channel(map: u32, slot: u32, offset: u32) -> u32
     ensures { result ≡ channel_for_c map slot offset }
 {
     superframes::channel_of(map, slot, offset)
 }
 
 // The verdict of the test for fixed priority of the set in `text`; a text that is refused has the reader's refusal, line and field, and zeros.
-#[unsafe(no_mangle)]
-pub extern "C" fn rembasuk_fixed_verdict(text: &[u8]) -> FixedVerdictAnswer
+pub fn rembasuk_fixed_verdict(text: &[u8]) -> FixedVerdictAnswer
     ensures { result ≡ fixed_verdict_for_c text.now }
 {
     let reading = text::read(text);
@@ -130,8 +120,7 @@ pub extern "C" fn rembasuk_fixed_verdict(text: &[u8]) -> FixedVerdictAnswer
 }
 
 // The bound of one flow of the set in `text` with fixed priority: the text's refusals, then 13.
-#[unsafe(no_mangle)]
-pub extern "C" fn rembasuk_fixed_bounds(text: &[u8], flow: u32) -> FixedBoundsAnswer
+pub fn rembasuk_fixed_bounds(text: &[u8], flow: u32) -> FixedBoundsAnswer
     ensures { result ≡ fixed_bounds_for_c text.now flow }
 {
     let reading = text::read(text);
@@ -141,8 +130,7 @@ pub extern "C" fn rembasuk_fixed_bounds(text: &[u8], flow: u32) -> FixedBoundsAn
 
 // One slot of the set in `text` with fixed priority: the next state over the 68 bytes, the slot's `send` lines at the start of `lines`.
 // The text's refusals, then 12, 11 and 10; a refusal changes neither.
-#[unsafe(no_mangle)]
-pub extern "C" fn rembasuk_fixed_slot(text: &[u8], state: &mut [u8], lines: &mut [u8]) -> SlotAnswer
+pub fn rembasuk_fixed_slot(text: &[u8], state: &mut [u8], lines: &mut [u8]) -> SlotAnswer
     ensures value { result ≡ fixed_slot_for_c text.now state.old (length lines.old) }
     ensures state_after_is { state.new ≡ slot_state_with lower (read_text text.now) state.old (length lines.old) }
     ensures lines_after { lines.new ≡ slot_buffer_with lower (read_text text.now) state.old lines.old }

@@ -68,8 +68,7 @@ fn fault_numbers(fault: Fault) -> ProbeFault
 }
 
 // The record check.
-#[unsafe(no_mangle)]
-pub extern "C" fn probe_record_fault(s: FlowSet) -> ProbeFault
+pub fn probe_record_fault(s: FlowSet) -> ProbeFault
     ensures { result ≡ fault_numbers (record_fault (used s)) }
 {
     fault_numbers(rules::record_fault(s))
@@ -87,16 +86,14 @@ fn reading_numbers(reading: Reading) -> ProbeReading
 }
 
 // The reader.
-#[unsafe(no_mangle)]
-pub extern "C" fn probe_read(text: &[u8]) -> ProbeReading
+pub fn probe_read(text: &[u8]) -> ProbeReading
     ensures { result ≡ reading_numbers (read_text text.now) }
 {
     reading_numbers(text::read(text))
 }
 
 // The writer.
-#[unsafe(no_mangle)]
-pub extern "C" fn probe_write(s: FlowSet, out: &mut [u8]) -> SlotAnswer
+pub fn probe_write(s: FlowSet, out: &mut [u8]) -> SlotAnswer
     ensures { (result ≡ slot_numbers (write_answer (used s) (length out.old)))
         × (out.new ≡ write_into (used s) out.old) }
 {
@@ -104,8 +101,7 @@ pub extern "C" fn probe_write(s: FlowSet, out: &mut [u8]) -> SlotAnswer
 }
 
 // The plan program's text.
-#[unsafe(no_mangle)]
-pub extern "C" fn probe_plan(input: &[u8], out: &mut [u8]) -> SlotAnswer
+pub fn probe_plan(input: &[u8], out: &mut [u8]) -> SlotAnswer
     ensures { (result ≡ slot_numbers (plan_answer input.now (length out.old)))
         × (out.new ≡ plan_into input.now out.old) }
 {
@@ -113,16 +109,14 @@ pub extern "C" fn probe_plan(input: &[u8], out: &mut [u8]) -> SlotAnswer
 }
 
 // Both verdicts.
-#[unsafe(no_mangle)]
-pub extern "C" fn probe_verdict(s: FlowSet) -> VerdictAnswer
+pub fn probe_verdict(s: FlowSet) -> VerdictAnswer
     ensures { result ≡ verdict_numbers (verdict_of (used s)) }
 {
     planner::verdict_numbers(delay::verdict(s))
 }
 
 // One flow's bounds.
-#[unsafe(no_mangle)]
-pub extern "C" fn probe_bounds(s: FlowSet, flow: u16) -> BoundsAnswer
+pub fn probe_bounds(s: FlowSet, flow: u16) -> BoundsAnswer
     ensures { result ≡ bounds_numbers (bounds_of (used s) flow) }
 {
     planner::bounds_numbers(delay::bounds(s, flow))
@@ -149,8 +143,7 @@ fn stepped_numbers(stepped: Stepped) -> ProbeStepped
 }
 
 // One step.
-#[unsafe(no_mangle)]
-pub extern "C" fn probe_step(s: FlowSet, st: State) -> ProbeStepped
+pub fn probe_step(s: FlowSet, st: State) -> ProbeStepped
     ensures { result ≡ stepped_numbers (step_of (used s) st) }
 {
     stepped_numbers(machine::step(s, st))
@@ -170,24 +163,21 @@ fn ran_numbers(ran: Ran) -> ProbeRan
 }
 
 // A run from the fresh state.
-#[unsafe(no_mangle)]
-pub extern "C" fn probe_run(s: FlowSet, budget: u32) -> ProbeRan
+pub fn probe_run(s: FlowSet, budget: u32) -> ProbeRan
     ensures { result ≡ ran_numbers (run_of (used s) budget) }
 {
     ran_numbers(machine::run(s, budget))
 }
 
 // How long a superframe is.
-#[unsafe(no_mangle)]
-pub extern "C" fn probe_superframe_size(s: FlowSet) -> SuperframeAnswer
+pub fn probe_superframe_size(s: FlowSet) -> SuperframeAnswer
     ensures { result ≡ superframe_numbers (size_answer (used s)) }
 {
     planner::superframe_numbers(superframe_table::superframe_size(s))
 }
 
 // A superframe.
-#[unsafe(no_mangle)]
-pub extern "C" fn probe_superframe(s: FlowSet, table: &mut [u16]) -> SuperframeAnswer
+pub fn probe_superframe(s: FlowSet, table: &mut [u16]) -> SuperframeAnswer
     ensures { (result ≡ superframe_numbers (superframe_answer (used s) (length table.old)))
         × (table.new ≡ superframe_into (used s) table.old) }
 {
@@ -195,40 +185,35 @@ pub extern "C" fn probe_superframe(s: FlowSet, table: &mut [u16]) -> SuperframeA
 }
 
 // The verdict of the test for fixed priority.
-#[unsafe(no_mangle)]
-pub extern "C" fn probe_fixed_verdict(s: FlowSet) -> FixedVerdictAnswer
+pub fn probe_fixed_verdict(s: FlowSet) -> FixedVerdictAnswer
     ensures { result ≡ fixed_verdict_numbers (fixed_verdict_of (used s)) }
 {
     planner::fixed_verdict_numbers(delay::fixed_verdict(s))
 }
 
 // One flow's bound with fixed priority.
-#[unsafe(no_mangle)]
-pub extern "C" fn probe_fixed_bounds(s: FlowSet, flow: u16) -> FixedBoundsAnswer
+pub fn probe_fixed_bounds(s: FlowSet, flow: u16) -> FixedBoundsAnswer
     ensures { result ≡ fixed_bounds_numbers (fixed_bounds_of (used s) flow) }
 {
     planner::fixed_bounds_numbers(delay::fixed_bounds(s, flow))
 }
 
 // One step with fixed priority.
-#[unsafe(no_mangle)]
-pub extern "C" fn probe_fixed_step(s: FlowSet, st: State) -> ProbeStepped
+pub fn probe_fixed_step(s: FlowSet, st: State) -> ProbeStepped
     ensures { result ≡ stepped_numbers (fixed_step (used s) st) }
 {
     stepped_numbers(machine::fixed_step(s, st))
 }
 
 // A run from the fresh state with fixed priority.
-#[unsafe(no_mangle)]
-pub extern "C" fn probe_fixed_run(s: FlowSet, budget: u32) -> ProbeRan
+pub fn probe_fixed_run(s: FlowSet, budget: u32) -> ProbeRan
     ensures { result ≡ ran_numbers (fixed_run (used s) budget) }
 {
     ran_numbers(machine::fixed_run(s, budget))
 }
 
 // The text of the program for fixed priority.
-#[unsafe(no_mangle)]
-pub extern "C" fn probe_fixed(input: &[u8], out: &mut [u8]) -> SlotAnswer
+pub fn probe_fixed(input: &[u8], out: &mut [u8]) -> SlotAnswer
     ensures { (result ≡ slot_numbers (fixed_answer input.now (length out.old)))
         × (out.new ≡ fixed_into input.now out.old) }
 {

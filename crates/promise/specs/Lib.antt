@@ -8,14 +8,12 @@ pub mod Within
 pub mod ByNumber
 pub mod Promise
 pub mod Repeated
-pub mod Larger
 pub mod RunStates
 pub mod BothOrders
 pub mod Timetable
 pub mod Reports
 pub mod Facts
 pub mod Flows
-pub mod SlotsApart
 pub mod TextHeld
 pub mod Demand
 pub mod Named
@@ -23,7 +21,6 @@ pub mod Machines
 pub mod Refuted
 pub mod SentLines
 pub mod Calls
-pub mod FixedPromise
 pub mod FixedRefuted
 pub mod FullLines
 pub mod SameChoice
@@ -31,10 +28,7 @@ pub mod Shifts
 pub mod ShiftedSlots
 pub mod ShiftedRun
 pub mod SlotRows
-pub mod SlotsRepeat
 pub mod TableShape
-pub mod TableLength
 pub mod LeastHyper
-pub mod EveryTable
 pub mod LoadedCalls
 pub mod FieldsForHosts

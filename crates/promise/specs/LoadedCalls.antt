@@ -1,25 +1,20 @@
 -- Request 2 of what C calls and of what the program prints: a set that nothing refuses is accepted, admitted, with starts 0 and a short hyper-period; the rows
 -- of the lent table are the superframe's; so a slot's lines are those of its rows.
-use Rattle.std.specs.Prelude.{◌≡◌, refl, Bool, true, false, not, cond, List, [], ◌∷◌, map, ℕ, suc, ◌%◌, ◌^◌, ◌≤◌, ◌<◌, ltb, length, take}
+use Rattle.std.specs.Prelude.{◌≡◌, refl, Bool, true, false, not, cond, List, ℕ, ◌≤◌, ltb, length, take}
 use Rattle.std.proofs.Common.{sym, ap, ◌∙◌, arith, take_at}
 use Rattle.std.proofs.lemmas.Bool.{false≢true}
-use borrow.Author.Tests.{ltb-false, le-ltb, eq-eqb}
+use borrow.Author.Tests.{ltb-false, eq-eqb}
 use Rattle.model.specs.declared.kinds.FlowSet.{FlowSet}
 use Rattle.model.specs.declared.answers.{Fault.{Fault}}
 use Rattle.model.specs.declared.answers.Refusal.TheVariants.{NotAdmitted, LateStart, LongHyperPeriod}
-use Rattle.model.specs.{Limits.{most_channels}, Refusals.{good, refusal_number, fault_at, refused_table}, Sets.{flow_at}}
+use Rattle.model.specs.{Refusals.{good, refusal_number, fault_at, refused_table}, Sets.{flow_at}}
 use Rattle.document.specs.Reader.{record_fault, read_text}
 use Rattle.document.specs.Delay.{verdict_of}
-use Rattle.document.specs.Program.{most_input, send_lines}
-use Rattle.document.specs.Superframe.{hyper, superframe, flat, most_hyper, neither_admits, starts_late, size_fault, superframe_fault, superframe_answer, superframe_into, tabled, at_start, rows_of, row_lines, superframe_text}
-use Rattle.document.specs.ForC.{superframe_for_c, superframe_of_reading, superframe_after, channel_for_c}
-use Rattle.laws.specs.{Accepted.{or_else_good}, SumLaws.{any_none, or_case}, Used.{used_map}, FlatRows.{rows_back}}
+use Rattle.document.specs.Superframe.{hyper, superframe, flat, most_hyper, neither_admits, starts_late, size_fault, superframe_fault, superframe_answer, superframe_into, tabled, at_start}
+use Rattle.document.specs.ForC.{superframe_for_c, superframe_of_reading, superframe_after}
+use Rattle.laws.specs.{Accepted.{or_else_good}, SumLaws.{any_none, or_case}}
 use Rattle.promise.specs.Promise.{Admitted, set_in}
-use Rattle.promise.specs.Repeated.{FromZero, send_of_row, line_of_row, rows_of_slot, loaded_numbers, loaded, RepeatsForC, ProgramPrints}
-use Rattle.promise.specs.DeadlineOrder.{deadline_order}
-use Rattle.promise.specs.EveryTable.{text_repeats}
-use Rattle.promise.specs.TextHeld.{text_held}
-use Rattle.promise.specs.Calls.{calls_run, reported}
+use Rattle.promise.specs.Repeated.{FromZero, loaded_numbers}
 
 -- a set that is loaded, whatever the room
 pub record Loadable (s : FlowSet) : Type 0 where
@@ -72,7 +67,7 @@ loads_read text room e = go (good (read_text text).fault.refusal) refl
 -- and of a text that was read it answers for its set:
 module _ (text : List ℕ) (read : good (read_text text).fault.refusal ≡ true) (room : ℕ) (e : (superframe_for_c text room).refusal ≡ 0) where
   -- nothing refuses the set,
-  nothing_refused : good (superframe_fault (set_in text) room).refusal ≡ true
+  pub nothing_refused : good (superframe_fault (set_in text) room).refusal ≡ true
   unfolding superframe_for_c superframe_of_reading superframe_answer
   nothing_refused =
       let z : refusal_number (tabled (set_in text) (superframe_fault (set_in text) room)).fault.refusal ≡ 0 = rw read at e in
@@ -83,19 +78,13 @@ module _ (text : List ℕ) (read : good (read_text text).fault.refusal ≡ true)
   set_loadable = loadable (set_in text) (or_else_good (size_fault (set_in text)) _ nothing_refused).0
 
   -- and the answer has its hyper-period and the length of its table.
-  answer_hyper : (superframe_for_c text room).hyper ≡ hyper (set_in text)
+  pub answer_hyper : (superframe_for_c text room).hyper ≡ hyper (set_in text)
   unfolding superframe_for_c superframe_of_reading superframe_answer
   answer_hyper = rw (read, nothing_refused)
 
   answer_numbers : (superframe_for_c text room).numbers ≡ length (flat (superframe (set_in text)))
   unfolding superframe_for_c superframe_of_reading superframe_answer
   answer_numbers = rw (read, nothing_refused)
-
--- a row's line is that of the transmission that it stands for
-rows_lines : (s : FlowSet) (t : ℕ) (rs : List (List ℕ)) → s.map.0 ≤ 65535 → send_lines (map (send_of_row s t) rs) ≡ flat (map (line_of_row s t) rs)
-unfolding send_lines flat channel_for_c
-rows_lines s t [] h = refl
-rows_lines s t (r ∷ rs) h = rw (le-ltb 65535 s.map.0 h, rows_lines s t rs h)
 
 -- the numbers in the lent table are the superframe's, and so are the rows
 pub loaded_numbers_law : (text table : List ℕ) → (superframe_for_c text (length table)).refusal ≡ 0 → loaded_numbers text table ≡ flat (superframe (set_in text))
@@ -106,27 +95,3 @@ loaded_numbers_law text table e =
     let n = answer_numbers text read (length table) e in
     let g : superframe_after (read_text text) table ≡ at_start numbers table = rw (read, nothing_refused text read (length table) e) in
     ap (take (superframe_for_c text (length table)).numbers) g ∙ take_at numbers _ _ (sym n)
-
-pub loaded_is : (text table : List ℕ) → (superframe_for_c text (length table)).refusal ≡ 0 → loaded text table ≡ superframe (set_in text)
-loaded_is text table e =
-    let read = loads_read text (length table) e in
-    let l = set_loadable text read (length table) e in
-    ap rows_of (loaded_numbers_law text table e) ∙ rows_back (superframe (set_in text)) ((text_repeats text read).shape (omega (arith, l.short))).four
-
-pub repeats_for_c : RepeatsForC
-repeats_for_c text table e lent room t h =
-    let read = loads_read text (length table) e in
-    let l = set_loadable text read (length table) e in
-    let lines = ((calls_run deadline_order text read lent room (suc t) h).calls t (omega arith)).lines in
-    let rows = rows_of_slot (t % hyper (set_in text)) (superframe (set_in text)) in
-    let again = ((text_repeats text read).repeats l.from_zero t h).sends in
-    let bits : (set_in text).map.0 < 2 ^ most_channels = rw (used_map (read_text text).set) (text_held text read).0 in
-    rw (loaded_is text table e, answer_hyper text read (length table) e)
-    (lines ∙ ap send_lines (reported deadline_order text read t h ∙ again) ∙ rows_lines (set_in text) t rows (omega arith))
-
-pub program_prints : ProgramPrints
-unfolding superframe_text superframe_fault
-program_prints text table e h =
-    let read = loads_read text (length table) e in
-    let f = (or_else_good (size_fault (set_in text)) _ (nothing_refused text read (length table) e)).0 in
-    rw (le-ltb most_input (length text) h, read, f) (ap row_lines (sym (loaded_is text table e)))

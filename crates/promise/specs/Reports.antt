@@ -1,6 +1,6 @@
 -- What a slot of the run reports, with any order of priority: the placed packets' transmissions at their places, and who is dropped. It is so
 -- because no step before the last slot is refused, and the report's arrays have room for all of them.
-use Rattle.std.specs.Prelude.{◌≡◌, Bool, true, false, cond, List, [], ◌∷◌, ◌++◌, ℕ, zero, suc, ◌+◌, ◌/◌, ◌%◌, ◌^◌, ◌≤◌, ◌<◌, length, take, drop, replicate}
+use Rattle.std.specs.Prelude.{◌≡◌, Bool, true, false, cond, List, [], ◌∷◌, ◌++◌, ℕ, zero, suc, ◌+◌, ◌^◌, ◌≤◌, ◌<◌, length, take, drop, replicate}
 use Rattle.std.proofs.Math.Path.{refl, ap}
 use Rattle.std.proofs.Common.{sym, ◌∙◌, inl, inr, zero-le, le_refl, add-zero, zero-add, length-append, get_or-take, get_or-drop}
 use Rattle.std.proofs.Math.Decide.{dec_le}
@@ -13,16 +13,16 @@ use Rattle.model.specs.declared.kinds.State.{State}
 use Rattle.model.specs.declared.answers.Stepped.{Stepped}
 use Rattle.model.specs.Limits.{most_channels, most_flows, last_slot}
 use Rattle.model.specs.Refusals.{good}
-use Rattle.model.specs.Sets.{flow_at, memb, filter_to}
+use Rattle.model.specs.Sets.{memb, filter_to}
 use Rattle.document.specs.Reader.{record_fault}
 use Rattle.document.specs.Delay.{ways}
-use Rattle.document.specs.Machine.{Priority, had_at, placed_with, no_send, send_of, sends_from, sends_with, dropped_with, filled, step_with}
+use Rattle.document.specs.Machine.{Priority, placed_with, no_send, send_of, sends_from, sends_with, dropped_with, filled, step_with}
 use Rattle.laws.specs.Accepted.{accepted}
 use Rattle.laws.specs.Members.{memb_empty, memb_case, memb_at}
-use Rattle.promise.specs.Promise.{report, send, Is}
+use Rattle.promise.specs.Promise.{report, send}
 use Rattle.promise.specs.SlotChoice.{Ordering}
-use Rattle.promise.specs.RunStates.{state_at, choice, state_slot, report_good}
-use Rattle.promise.specs.Timetable.{placed_in, number_in, number_eq}
+use Rattle.promise.specs.RunStates.{state_at, choice, report_good}
+use Rattle.promise.specs.Timetable.{placed_in}
 
 -- an array that has room shows its entries
 pub filled_at : {A : Type 0} (n : ℕ) (d : A) (l : List A) (p : ℕ) → p < length l → p < n → get_or (filled n d l) p d ≡ get_or l p d
@@ -112,30 +112,6 @@ module _ {first : Priority} (o : Ordering first) where
         ∙ filled_at most_channels no_send (sends_with first s st) p (omega (arith, sends_eq t h)) (omega (arith, sends_le t h, ones-le most_channels s.map.0 b))
         ∙ sends_at_law s st 0 (placed_with first s st) p (omega (arith, sends_eq t h))
         ∙ rw (zero-add p)
-
-    pub send_is : (k t p : ℕ) → t < last_slot → Is s t k (number_in first s k t) (send_of s (state_at first s t) k p)
-    unfolding send_of
-    send_is k t p h =
-        let n = number_eq o s g k t (omega arith) in
-        record {
-          which = (omega (arith, state_slot o s g t (omega arith)), refl, ap (λ (i : ℕ). i % (flow_at s k).tries) n);
-          from = link_from (flow_at s k).route (had_at s (state_at first s t) k / (flow_at s k).tries)
-              ∙ ap (λ (i : ℕ). get_or (flow_at s k).route (i / (flow_at s k).tries) 0) n;
-          to = omega (
-            arith,
-            link_to (flow_at s k).route (had_at s (state_at first s t) k / (flow_at s k).tries),
-            ap (λ (i : ℕ). get_or (flow_at s k).route (i / (flow_at s k).tries + 1) 0) n,
-          );
-        }
-
-    -- a placed packet's transmission is reported, as rule 3 has it
-    pub placed_sent : (k t : ℕ) → t < last_slot → s.map.0 < 2 ^ most_channels → placed_in first s k t ≡ true
-        → (p : ℕ) × (p < (report (step_with first) s t).sends) × Is s t k (number_in first s k t) (send (report (step_with first) s t) p)
-    placed_sent k t h b e =
-        let st = state_at first s t in
-        let w = memb_place k (placed_with first s st) e in
-        let l : w.0 < (report (step_with first) s t).sends = omega (arith, sends_eq t h) in
-        (w.0, l, rw (send_eq t w.0 h b l, w.2) (send_is k t w.0 h))
 
     -- transmission p of the report is of a packet that is placed
     pub sent_placed : (t p : ℕ) → t < last_slot → p < (report (step_with first) s t).sends

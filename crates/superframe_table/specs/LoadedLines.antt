@@ -13,7 +13,7 @@ use Rattle.document.specs.ForC.{write_table_for_c, read_table_for_c}
 use Rattle.laws.specs.{Accepted.{accepted, work_small}, FlatRows.{rows_back}, Used.{used_map}}
 use Rattle.promise.specs.Promise.{set_in}
 use Rattle.promise.specs.Repeated.{Shaped, flow_of, LoadedAgain}
-use Rattle.promise.specs.EveryTable.{text_repeats}
+use Rattle.promise.proofs.EveryTable.{text_repeats}
 use Rattle.promise.specs.TextHeld.{text_held, text_passes}
 use Rattle.promise.specs.LoadedCalls.{loads_read, set_loadable, loaded_numbers_law}
 use Rattle.text.specs.TableLines.{lines_again}

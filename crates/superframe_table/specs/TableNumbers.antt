@@ -4,7 +4,9 @@ use Rattle.std.proofs.Common.{arith}
 use Rattle.model.specs.{declared.kinds.FlowSet.{FlowSet}, Sets.{used}}
 use Rattle.document.specs.Superframe.{superframe, flat}
 use Rattle.laws.specs.FlatRows.{flat_length}
-use Rattle.promise.specs.{Repeated.{row_count}, EveryTable.{repeats}, LoadedCalls.{Loadable}}
+use Rattle.promise.specs.Repeated.{row_count}
+use Rattle.promise.proofs.EveryTable.{repeats}
+use Rattle.promise.specs.LoadedCalls.{Loadable}
 
 pub numbers_counted : (s : FlowSet) → Loadable (used s) → 4 * row_count (used s) ≡ length (flat (superframe (used s)))
 numbers_counted s l =

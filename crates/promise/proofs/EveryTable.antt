@@ -9,9 +9,9 @@ use Rattle.promise.specs.Promise.{set_in}
 use Rattle.promise.specs.Repeated.{Repeated, Repeats, TextRepeats}
 use Rattle.promise.specs.TextHeld.{text_passes}
 use Rattle.promise.specs.LeastHyper.{least_common}
-use Rattle.promise.specs.SlotsRepeat.{repeats_in}
+use Rattle.promise.proofs.SlotsRepeat.{repeats_in}
 use Rattle.promise.specs.SlotRows.{rows_most}
-use Rattle.promise.specs.TableLength.{table_length}
+use Rattle.promise.proofs.TableLength.{table_length}
 use Rattle.promise.specs.TableShape.{rows_shaped}
 
 repeated : (s : FlowSet) → good (record_fault s).refusal ≡ true → Repeated s

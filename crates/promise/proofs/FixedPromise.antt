@@ -18,13 +18,16 @@ use Rattle.laws.specs.FixedBounds.{judged_bound, judged_below, all_keep, in_time
 use Rattle.promise.specs.Promise.{Held, fixed, PromiseOf, TextPromiseOf, FixedPromise, FixedPromiseForC}
 use Rattle.promise.specs.NumberOrder.{number_order}
 use Rattle.promise.specs.Schedule.{numbered}
-use Rattle.promise.specs.ByNumber.{Lower, number_value, done_by_number}
+use Rattle.promise.specs.ByNumber.{Lower, number_value}
+use Rattle.promise.proofs.ByNumber.{done_by_number}
 use Rattle.promise.specs.RunStates.{state_at}
 use Rattle.promise.specs.Timetable.{placed_in, timetable}
 use Rattle.promise.specs.Facts.{OwnFacts}
-use Rattle.promise.specs.Flows.{FlowKept, complete_kept}
-use Rattle.promise.specs.Demand.{all_each, FlowsKeep, flows_promise, flows_run, own_facts, only_good, used_bits, text_promise}
-use Rattle.promise.specs.Calls.{calls_promise}
+use Rattle.promise.specs.Flows.{FlowKept}
+use Rattle.promise.proofs.Flows.{complete_kept}
+use Rattle.promise.proofs.Demand.{all_each, flows_promise, flows_run, own_facts, only_good, text_promise}
+use Rattle.promise.specs.Demand.{FlowsKeep}
+use Rattle.promise.proofs.Calls.{calls_promise}
 
 -- the request's value is the argument's
 value_is : (s : FlowSet) (k : ℕ)
@@ -47,7 +50,7 @@ module _ (s : FlowSet) (g : good (record_fault s).refusal ≡ true) where
   pub fixed_bound_is : (k : ℕ) → k < s.count → (fixed_bounds_of s k).bound ≡ fixed_bound s k
   fixed_bound_is k l = ap (λ (b : FixedBounds). b.bound) (bounds_good k l)
 
-  judged_is : (k : ℕ) → k < s.count → (fixed_bounds_of s k).judged ≡ judged s k
+  pub judged_is : (k : ℕ) → k < s.count → (fixed_bounds_of s k).judged ≡ judged s k
   judged_is k l = ap (λ (b : FixedBounds). b.judged) (bounds_good k l)
 
   -- where the test admits, every bound is at most its deadline
@@ -82,15 +85,7 @@ module _ (s : FlowSet) (g : good (record_fault s).refusal ≡ true) where
   fixed_flow bits k n l h e d =
       rw (fixed_bound_is k l) (complete_kept number_order s g k (fixed_bound s k) l d (λ j. complete k j l e d) n bits h)
 
--- the same of the answer for one flow: every flow before the first one over its deadline, in any accepted set
-pub fixed_safe_flow : (s : FlowSet) → Held s → good (record_fault (used s)).refusal ≡ true → (k n : ℕ) → k < (used s).count → n ≤ last_slot
-    → (fixed_bounds_of (used s) k).judged ≡ true → (fixed_bounds_of (used s) k).bound ≤ deadline (used s) k
-    → FlowKept fixed_step (used s) k (fixed_bounds_of (used s) k).bound n
-fixed_safe_flow s w g k n l h e d =
-    let u = used s in
-    fixed_flow u g (used_bits s w) k n l h (sym (judged_is u g k l) ∙ e) (rw (fixed_bound_is u g k l) at d)
-
--- in an admitted set that is every flow
+-- in an admitted set every flow is judged, and none is over its deadline
 fixed_flows : FlowsKeep fixed fixed_step
 fixed_flows s g bits e k n l h =
     let d = fixed_admits s g e in

@@ -28,8 +28,8 @@ use Rattle.promise.specs.Schedule.{numbered}
 use Rattle.promise.specs.RunStates.{choice}
 use Rattle.promise.specs.Timetable.{placed_in, timetable}
 use Rattle.promise.specs.Reports.{memb_place}
-use Rattle.promise.specs.Flows.{complete}
-use Rattle.promise.specs.Demand.{tight_bound_law, tight_admits}
+use Rattle.promise.proofs.Complete.{complete}
+use Rattle.promise.proofs.Demand.{tight_bound_law, tight_admits}
 use Rattle.promise.specs.SlotRows.{table_rows}
 
 -- sums whose terms differ at one place alone, by one

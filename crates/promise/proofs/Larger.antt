@@ -1,19 +1,10 @@
--- Larger bounds are kept where smaller ones are: a packet that is made within b slots is made within any larger number of slots, and of the
--- first n slots larger bounds ask for fewer packets.
+-- Larger bounds are kept where smaller ones are: of the first n slots larger bounds ask for fewer packets.
 use mathlib.Core.{Bool.{true}, Path.{◌≡◌}}
 use Rattle.std.specs.Prelude.{ℕ, ◌≤◌, ◌<◌}
 use Rattle.std.proofs.Common.{arith}
 use Rattle.model.specs.declared.kinds.FlowSet.{FlowSet}
-use Rattle.promise.specs.Promise.{SlotMachine, Made, Kept, Test, PromiseOf}
-
-pub made_longer : (M : SlotMachine) (s : FlowSet) (k j b c : ℕ) → b ≤ c → Made M s k j b → Made M s k j c
-made_longer M s k j b c h m =
-    record {
-      at = m.at;
-      sent = m.sent;
-      within = λ i l. let w = m.within i l in (w.0, omega arith);
-      rising = m.rising;
-    }
+use Rattle.promise.specs.Promise.{SlotMachine, Kept, Test, PromiseOf}
+use Rattle.promise.proofs.MadeLonger.{made_longer}
 
 pub kept_longer : (M : SlotMachine) (s : FlowSet) (b c : ℕ → ℕ) (n : ℕ) → ((k : ℕ) → k < s.count → b k ≤ c k) → Kept M s b n → Kept M s c n
 kept_longer M s b c n h w =
