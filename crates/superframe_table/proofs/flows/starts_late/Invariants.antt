@@ -1,0 +1,16 @@
+-- `starts_late`: no flow so far starts late. Assumes nothing beyond its `requires`.
+use mathlib.Core.Path.{◌≡◌, sym}
+use mathlib.Core.Bool.{false}
+use Prim.Native.Nat.{◌-◌, ◌≤◌}
+use Rattle.model.specs.{Limits.{most_flows}, Sums.{any_to}, Sets.{used}}
+use Rattle.laws.specs.{Accepted.{accepted}, Loops.{SoFar, begins, goes_on, ends}, SumLaws.{any_zero}}
+use Rattle.delay.specs.AcceptedFlows.{count_at_law}
+use Rattle.superframe_table.specs.TableFlows.{late, late_at, late_next, late_none}
+use borrow.Author.Rules.{rules}
+use Rattle.superframe_table.proofs.flows.starts_late.Given as goal
+
+abbrev pub invariant-loop-k : goal.invariant-loop-k
+invariant-loop-k l = SoFar l.n (λ i. (l.n ≤ most_flows) × (any_to (late (used l.s)) i ≡ false)) l.k
+
+abbrev pub decreases-loop-k : goal.decreases-loop-k
+decreases-loop-k l = l.n - l.k
