@@ -8,7 +8,6 @@ use Rattle.laws.specs.{Codes.{accepts, refuses}, HyperPeriod.{hyper_positive}}
 use Rattle.superframe_table.specs.LoadedHyper.{loaded_zero, loaded_some}
 use Rattle.superframe_table.specs.SetFaults.{set_accepted}
 use Rattle.superframe_table.specs.SizeAnswers.{size_refused, size_long, size_counted}
-use borrow.Author.Rules.{rules}
 use Rattle.superframe_table.proofs.superframe_size.Goals as goal
 use Rattle.superframe_table.proofs.superframe_size.Goals.{Else-refuses, Else-slots-eq0}
 

@@ -8,7 +8,6 @@ use Rattle.model.specs.{declared.kinds.Flow.{Flow}, Sets.{exact, work}}
 use Rattle.document.specs.Superframe.{most_hyper}
 use Rattle.laws.specs.Accepted.{GoodFlow}
 use Rattle.superframe_table.specs.TableFlows.{rows_le}
-use borrow.Author.Rules.{rules}
 use Rattle.superframe_table.proofs.flows.flow_rows.Goals as goal
 
 -- the product is the flow's rows

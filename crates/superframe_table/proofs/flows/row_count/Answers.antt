@@ -1,12 +1,10 @@
-use mathlib.Core.Path.{◌≡◌, refl, ap, ◌∙◌}
-use Prim.Native.Nat.{ℕ, ◌-◌, ◌*◌, ◌/◌, ◌≤◌}
+use mathlib.Core.Path.{refl, ap, ◌∙◌}
+use Prim.Native.Nat.{ℕ, ◌*◌, ◌/◌}
 use native.Mathlib.Omega.{arith}
-use Rattle.model.specs.{Limits.{most_flows}, Sums.{sum_to}, Sets.{flow_at, used, work}}
-use Rattle.document.specs.Superframe.{most_hyper}
-use Rattle.laws.specs.{Accepted.{accepted}, Loops.{SoFar, begins, goes_on, ends}}
+use Rattle.model.specs.{Sums.{sum_to}, Sets.{flow_at, used, work}}
+use Rattle.laws.specs.{Accepted.{accepted}, Loops.{begins, goes_on, ends}}
 use Rattle.delay.specs.AcceptedFlows.{good_at, count_at_law}
-use Rattle.superframe_table.specs.TableFlows.{flow_rows, rows_next, rows_all}
-use borrow.Author.Rules.{rules}
+use Rattle.superframe_table.specs.TableFlows.{rows_next, rows_all}
 use Rattle.superframe_table.proofs.flows.row_count.Goals as goal
 
 pub loop-k-init : goal.loop-k-init

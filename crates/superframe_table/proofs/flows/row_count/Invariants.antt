@@ -1,13 +1,10 @@
 -- `row_count`: the sum of the rows of the flows so far, at most 65,536 each. Assumes nothing beyond its `requires`.
-use mathlib.Core.Path.{◌≡◌, refl, ap, ◌∙◌}
-use Prim.Native.Nat.{ℕ, ◌-◌, ◌*◌, ◌/◌, ◌≤◌}
-use native.Mathlib.Omega.{arith}
-use Rattle.model.specs.{Limits.{most_flows}, Sums.{sum_to}, Sets.{flow_at, used, work}}
+use mathlib.Core.Path.{◌≡◌}
+use Prim.Native.Nat.{◌-◌, ◌*◌, ◌≤◌}
+use Rattle.model.specs.{Limits.{most_flows}, Sums.{sum_to}, Sets.{used}}
 use Rattle.document.specs.Superframe.{most_hyper}
-use Rattle.laws.specs.{Accepted.{accepted}, Loops.{SoFar, begins, goes_on, ends}}
-use Rattle.delay.specs.AcceptedFlows.{good_at, count_at_law}
-use Rattle.superframe_table.specs.TableFlows.{flow_rows, rows_next, rows_all}
-use borrow.Author.Rules.{rules}
+use Rattle.laws.specs.{Loops.{SoFar}}
+use Rattle.superframe_table.specs.TableFlows.{flow_rows}
 use Rattle.superframe_table.proofs.flows.row_count.Given as goal
 
 abbrev pub invariant-loop-k : goal.invariant-loop-k

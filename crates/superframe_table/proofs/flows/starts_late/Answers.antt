@@ -1,11 +1,8 @@
-use mathlib.Core.Path.{◌≡◌, sym}
-use mathlib.Core.Bool.{false}
-use Prim.Native.Nat.{◌-◌, ◌≤◌}
-use Rattle.model.specs.{Limits.{most_flows}, Sums.{any_to}, Sets.{used}}
-use Rattle.laws.specs.{Accepted.{accepted}, Loops.{SoFar, begins, goes_on, ends}, SumLaws.{any_zero}}
+use mathlib.Core.Path.{sym}
+use Rattle.model.specs.{Sets.{used}}
+use Rattle.laws.specs.{Accepted.{accepted}, Loops.{begins, goes_on, ends}, SumLaws.{any_zero}}
 use Rattle.delay.specs.AcceptedFlows.{count_at_law}
-use Rattle.superframe_table.specs.TableFlows.{late, late_at, late_next, late_none}
-use borrow.Author.Rules.{rules}
+use Rattle.superframe_table.specs.TableFlows.{late_at, late_next, late_none}
 use Rattle.superframe_table.proofs.flows.starts_late.Goals as goal
 
 pub loop-k-init : goal.loop-k-init

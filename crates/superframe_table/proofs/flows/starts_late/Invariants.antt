@@ -1,12 +1,10 @@
 -- `starts_late`: no flow so far starts late. Assumes nothing beyond its `requires`.
-use mathlib.Core.Path.{◌≡◌, sym}
+use mathlib.Core.Path.{◌≡◌}
 use mathlib.Core.Bool.{false}
 use Prim.Native.Nat.{◌-◌, ◌≤◌}
 use Rattle.model.specs.{Limits.{most_flows}, Sums.{any_to}, Sets.{used}}
-use Rattle.laws.specs.{Accepted.{accepted}, Loops.{SoFar, begins, goes_on, ends}, SumLaws.{any_zero}}
-use Rattle.delay.specs.AcceptedFlows.{count_at_law}
-use Rattle.superframe_table.specs.TableFlows.{late, late_at, late_next, late_none}
-use borrow.Author.Rules.{rules}
+use Rattle.laws.specs.{Loops.{SoFar}}
+use Rattle.superframe_table.specs.TableFlows.{late}
 use Rattle.superframe_table.proofs.flows.starts_late.Given as goal
 
 abbrev pub invariant-loop-k : goal.invariant-loop-k

@@ -1,7 +1,6 @@
 -- `common_multiple`: the order of the two numbers is free. Assumes nothing beyond its `requires`.
 use mathlib.Core.Path.{ap, ◌∙◌}
 use Rattle.superframe_table.specs.LoadedHyper.{if_loaded, lcm_turned}
-use borrow.Author.Rules.{rules}
 use Rattle.superframe_table.proofs.hyper.common_multiple.Goals as goal
 
 pub returns-then-h-n : goal.returns-then-h-n

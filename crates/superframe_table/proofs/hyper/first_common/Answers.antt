@@ -1,6 +1,4 @@
-use Prim.Native.Nat.{◌-◌}
-use Rattle.superframe_table.specs.LoadedHyper.{Reached, reached_first, reached_end, reached_above, reached_next}
-use borrow.Author.Rules.{rules}
+use Rattle.superframe_table.specs.LoadedHyper.{reached_first, reached_end, reached_above, reached_next}
 use Rattle.superframe_table.proofs.hyper.first_common.Goals as goal
 
 pub loop-x-init : goal.loop-x-init

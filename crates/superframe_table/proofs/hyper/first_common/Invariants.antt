@@ -1,7 +1,6 @@
 -- `first_common` goes through the multiples of a that do not come after the least common one. Assumes nothing beyond its `requires`.
 use Prim.Native.Nat.{◌-◌}
-use Rattle.superframe_table.specs.LoadedHyper.{Reached, reached_first, reached_end, reached_above, reached_next}
-use borrow.Author.Rules.{rules}
+use Rattle.superframe_table.specs.LoadedHyper.{Reached}
 use Rattle.superframe_table.proofs.hyper.first_common.Given as goal
 
 abbrev pub invariant-loop-x : goal.invariant-loop-x

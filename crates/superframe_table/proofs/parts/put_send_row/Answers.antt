@@ -2,7 +2,6 @@
 use mathlib.Core.Path.{refl}
 use Rattle.text.specs.Put.{put_same}
 use Rattle.text.specs.WrittenRows.{line_same}
-use borrow.Author.Rules.{rules}
 use Rattle.superframe_table.proofs.parts.put_send_row.Goals as goal
 
 pub returns : goal.returns

@@ -1,13 +1,8 @@
-use mathlib.Core.Path.{◌≡◌, refl}
-use Prim.Native.Nat.{◌-◌, ◌≤◌}
+use mathlib.Core.Path.{refl}
 use native.Mathlib.Omega.{arith}
-use lib.ListN.{length, take}
-use Rattle.model.specs.Limits.{most_channels}
 use Rattle.document.specs.Superframe.{row_lines}
-use Rattle.text.specs.Put.{Putting, putting_start, putting_more, putting_done}
-use Rattle.superframe_table.specs.Parts.{send_rows}
+use Rattle.text.specs.Put.{putting_start, putting_more, putting_done}
 use Rattle.superframe_table.specs.SendRows.{sends_next}
-use borrow.Author.Rules.{rules}
 use Rattle.superframe_table.proofs.parts.put_slot_rows.Goals as goal
 
 pub loop-i-init : goal.loop-i-init

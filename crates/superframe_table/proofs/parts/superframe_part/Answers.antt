@@ -1,15 +1,13 @@
 use mathlib.Core.Path.{◌≡◌, refl, ap, ◌∙◌}
-use Prim.Native.Nat.{◌-◌, ◌≤◌}
 use native.Mathlib.Omega.{arith}
 use lib.ListN.{length}
 use Rattle.model.specs.Sets.{used}
 use Rattle.document.specs.Machine.{step_of}
 use Rattle.document.specs.Superframe.{row_lines}
 use Rattle.text.specs.HeldByCode.{set_held}
-use Rattle.text.specs.Put.{last_place, Putting, putting_start, putting_more, putting_done}
+use Rattle.text.specs.Put.{putting_start, putting_more, putting_done}
 use Rattle.superframe_table.specs.Parts.{part_slots, part_text, rows_more, state_after}
 use Rattle.superframe_table.specs.SendRows.{few_sends, part_is, part_left, part_next, state_next}
-use borrow.Author.Rules.{rules}
 use Rattle.superframe_table.proofs.parts.superframe_part.Goals as goal
 
 pub loop-made-init : goal.loop-made-init

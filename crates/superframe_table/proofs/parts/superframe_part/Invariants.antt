@@ -1,21 +1,15 @@
 -- `superframe_part` puts the lines of one slot more each time (`Putting`), from the state after the slots before it. The measure is how many slots are left.
 -- Assumes nothing.
-use mathlib.Core.Path.{◌≡◌, refl, ap, ◌∙◌}
+use mathlib.Core.Path.{◌≡◌}
 use Prim.Native.Nat.{◌-◌, ◌≤◌}
-use native.Mathlib.Omega.{arith}
 use lib.ListN.{length}
 use Rattle.model.specs.Sets.{used}
-use Rattle.document.specs.Machine.{step_of}
-use Rattle.document.specs.Superframe.{row_lines}
-use Rattle.text.specs.HeldByCode.{set_held}
-use Rattle.text.specs.Put.{last_place, Putting, putting_start, putting_more, putting_done}
-use Rattle.superframe_table.specs.Parts.{part_slots, part_text, rows_more, state_after}
-use Rattle.superframe_table.specs.SendRows.{few_sends, part_is, part_left, part_next, state_next}
-use borrow.Author.Rules.{rules}
+use Rattle.text.specs.Put.{last_place, Putting}
+use Rattle.superframe_table.specs.Parts.{part_slots, part_text, state_after}
 use Rattle.superframe_table.proofs.parts.superframe_part.Given as goal
 
 abbrev pub invariant-loop-made : goal.invariant-loop-made
-invariant-loop-made l =     (length l.initial.out ≤ last_place) × (l.n ≡ part_slots l.hyper l.initial.state (length l.initial.out)) × (l.state ≡ state_after (used l.s) l.initial.state l.made)
+invariant-loop-made l = (length l.initial.out ≤ last_place) × (l.n ≡ part_slots l.hyper l.initial.state (length l.initial.out)) × (l.state ≡ state_after (used l.s) l.initial.state l.made)
     × Putting l.initial.out 0 (part_text (used l.s) l.initial.state) l.n l.out l.place l.made
 
 abbrev pub decreases-loop-made : goal.decreases-loop-made

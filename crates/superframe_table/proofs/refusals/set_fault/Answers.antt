@@ -5,29 +5,25 @@ use Rattle.model.specs.{Refusals.{good}, Sets.{used}}
 use Rattle.document.specs.{Reader.{record_fault}, Superframe.{neither_admits}}
 use Rattle.laws.specs.Codes.{accepts, refuses}
 use Rattle.superframe_table.specs.SetFaults.{verdict_passes, neither_by, set_refused, set_not_admitted, set_late, set_none}
-use borrow.Author.Rules.{rules}
 use Rattle.superframe_table.proofs.refusals.set_fault.Goals as goal
-use Rattle.superframe_table.proofs.refusals.set_fault.Goals.{After-neither_admits, After-refuses, After-verdict-v, Else-refuses}
-
-abbrev judged : After-refuses → After-verdict-v
-judged c = c.before.before
+use Rattle.superframe_table.proofs.refusals.set_fault.Goals.{After-neither_admits, Else-refuses}
 
 pub returns-then-refuses : goal.returns-then-refuses
 returns-then-refuses c =
-    let v = (judged c.before).verdict in
-    set_refused _ v.result v.ensures.0 (refuses v.result.fault c.refuses.ensures c.if-refuses.true)
+    let v = c.verdict-v in
+    set_refused _ v.result v.ensures.answer (refuses v.result.fault c.refuses.ensures c.if-refuses.true)
 
 -- the record check passes
-accepted : (c : Else-refuses) → good (record_fault (used (judged c.before).before.args.s)).refusal ≡ true
+accepted : (c : Else-refuses) → good (record_fault (used c.args.s)).refusal ≡ true
 accepted c =
-    let v = (judged c.before).verdict in
-    verdict_passes _ v.result v.ensures.0 (accepts v.result.fault c.refuses.ensures c.if-refuses.false)
+    let v = c.verdict-v in
+    verdict_passes _ v.result v.ensures.answer (accepts v.result.fault c.refuses.ensures c.if-refuses.false)
 
 -- whether neither test admits
-admitted : (c : After-neither_admits) → neither_admits (used (judged c.before.before).before.args.s) ≡ c.neither_admits.result
+admitted : (c : After-neither_admits) → neither_admits (used c.args.s) ≡ c.neither_admits.result
 admitted c =
-    let v = (judged c.before.before).verdict in
-    neither_by _ v.result c.neither_admits.result v.ensures.0 c.neither_admits.ensures
+    let v = c.verdict-v in
+    neither_by _ v.result c.neither_admits.result v.ensures.answer c.neither_admits.ensures
 
 pub returns-then-neither_admits : goal.returns-then-neither_admits
 returns-then-neither_admits c =
