@@ -7,7 +7,6 @@ use Rattle.model.specs.declared.answers.Fault.{Fault}
 use Rattle.document.specs.Reader.{refused_writing}
 use Rattle.plan_text.specs.PlanOfReading.{most_plan}
 use Rattle.plan_text.specs.PlanInBuffer.{whole_long, whole_part, no_room, room}
-use borrow.Author.Rules.{rules}
 use Rattle.plan_text.proofs.print.Goals as goal
 
 zeros : length (replicate {A = ℕ} most_plan 0) ≡ most_plan
@@ -25,9 +24,6 @@ slice_bounds-text-end c =
 pub slice_bounds-put_word-end : goal.slice_bounds-put_word-end
 slice_bounds-put_word-end c =
     whole_part c.args.by c.args.input.now c.put_text-n.ensures zeros
-
-pub shape_of-out : goal.shape_of-out
-shape_of-out c = c.put_word.auto.0
 
 pub returns : goal.returns
 returns c =

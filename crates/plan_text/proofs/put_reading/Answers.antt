@@ -5,11 +5,7 @@ use Rattle.text.specs.NamedLine.{refused_line_law}
 use Rattle.text.specs.Put.{put_same}
 use Rattle.plan_text.specs.PlanInBuffer.{read_good, read_refused}
 use Rattle.laws.specs.Codes.{accepts, refuses}
-use borrow.Author.Rules.{rules}
 use Rattle.plan_text.proofs.put_reading.Goals as goal
-
-pub shape_of-out-then-refuses : goal.shape_of-out-then-refuses
-shape_of-out-then-refuses c = c.put_refused.auto.0
 
 pub returns-then-refuses : goal.returns-then-refuses
 returns-then-refuses c =
@@ -21,9 +17,6 @@ returns-then-refuses c =
 pub put_set-requires : goal.put_set-requires
 put_set-requires c =
     c.requires.passed (accepts c.args.reading.fault c.refuses.ensures c.if-refuses.false)
-
-pub shape_of-out : goal.shape_of-out
-shape_of-out c = c.put_set.auto.1.0
 
 pub returns : goal.returns
 returns c =

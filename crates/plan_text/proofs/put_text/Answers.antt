@@ -13,9 +13,6 @@ use Rattle.laws.specs.{LinesRead.{read_line_le}, NamedFields.{field_le}}
 use Rattle.plan_text.specs.PlanInBuffer.{text_long, text_short}
 use Rattle.plan_text.proofs.put_text.Goals as goal
 
-pub shape_of-out-then-is_too_long : goal.shape_of-out-then-is_too_long
-shape_of-out-then-is_too_long c = c.put_too_long.auto.0
-
 pub returns-then-is_too_long : goal.returns-then-is_too_long
 returns-then-is_too_long c =
     let input = c.args.input.now in
@@ -27,9 +24,6 @@ put_reading-requires c =
     let r = c.read-reading.ensures.value in
     let input = c.args.input.now in
     let l = ltb-false most_input (length input) (sym c.is_too_long.ensures ∙ c.if-is_too_long.false) in record { passed = λ g. rw r (text_passes input (rw (← r) g)); line_le_last_line = (rw r (read_line_le input), rw r (omega (arith, field_le input, l))) }
-
-pub shape_of-out : goal.shape_of-out
-shape_of-out c = c.put_reading.auto.1.0
 
 pub returns : goal.returns
 returns c =

@@ -5,7 +5,6 @@ use Prim.Native.Nat.{ℕ}
 use Rattle.document.specs.Text.{line_of}
 use Rattle.document.specs.Program.{bound_word}
 use Rattle.text.specs.Put.{put_same}
-use borrow.Author.Rules.{rules}
 use Rattle.plan_text.proofs.fixed_lines.put_bound.Goals as goal
 
 pub returns : goal.returns

@@ -1,13 +1,12 @@
 use Prim.{tt}
 use mathlib.Core.Path.{◌≡◌, refl}
 use mathlib.Core.List.{◌++◌}
-use Prim.Native.Nat.{◌+◌, ◌-◌}
+use Prim.Native.Nat.{◌+◌}
 use native.Mathlib.Omega.{arith}
 use Rattle.model.specs.Sets.{used}
 use Rattle.document.specs.Fixed.{fixed_bound_line, fixed_bound_lines}
-use Rattle.text.specs.Put.{Putting, putting_start, putting_more, putting_done}
+use Rattle.text.specs.Put.{putting_start, putting_more, putting_done}
 use Rattle.plan_text.specs.PlanLength.{fixed_more}
-use borrow.Author.Rules.{rules}
 use Rattle.plan_text.proofs.fixed_lines.put_bounds.Goals as goal
 
 pub loop-k-init : goal.loop-k-init

@@ -1,14 +1,8 @@
 -- Each turn puts the line of one flow more.
-use Prim.{tt}
-use mathlib.Core.Path.{◌≡◌, refl}
-use mathlib.Core.List.{◌++◌}
-use Prim.Native.Nat.{◌+◌, ◌-◌}
-use native.Mathlib.Omega.{arith}
+use Prim.Native.Nat.{◌-◌}
 use Rattle.model.specs.Sets.{used}
-use Rattle.document.specs.Fixed.{fixed_bound_line, fixed_bound_lines}
-use Rattle.text.specs.Put.{Putting, putting_start, putting_more, putting_done}
-use Rattle.plan_text.specs.PlanLength.{fixed_more}
-use borrow.Author.Rules.{rules}
+use Rattle.document.specs.Fixed.{fixed_bound_lines}
+use Rattle.text.specs.Put.{Putting}
 use Rattle.plan_text.proofs.fixed_lines.put_bounds.Given as goal
 
 abbrev pub invariant-loop-k : goal.invariant-loop-k

@@ -4,7 +4,6 @@ use native.Mathlib.Omega.{arith}
 use lib.ListN.{length}
 use Rattle.plan_text.specs.BoundText.{bound_text}
 use Rattle.text.specs.Put.{put_put, last_place}
-use borrow.Author.Rules.{rules}
 use Rattle.plan_text.proofs.lines.put_bound.Goals as goal
 
 pub returns : goal.returns

@@ -1,14 +1,13 @@
 use Prim.{tt}
 use mathlib.Core.Path.{◌≡◌, refl}
 use mathlib.Core.List.{◌++◌}
-use Prim.Native.Nat.{◌+◌, ◌-◌}
+use Prim.Native.Nat.{◌+◌}
 use native.Mathlib.Omega.{arith}
 use Rattle.model.specs.Sets.{used}
 use Rattle.document.specs.Program.{bound_lines}
 use Rattle.plan_text.specs.BoundText.{bound_text}
-use Rattle.text.specs.Put.{Putting, putting_start, putting_more, putting_done}
+use Rattle.text.specs.Put.{putting_start, putting_more, putting_done}
 use Rattle.plan_text.specs.PlanLength.{bounds_more}
-use borrow.Author.Rules.{rules}
 use Rattle.plan_text.proofs.lines.put_bounds.Goals as goal
 
 pub loop-k-init : goal.loop-k-init

@@ -4,7 +4,6 @@ use native.Mathlib.Omega.{arith}
 use borrow.Author.Tests.{lt-ltb, le-ltb}
 use lib.ListN.{length}
 use Rattle.text.specs.Put.{put_put, last_place}
-use borrow.Author.Rules.{rules}
 use Rattle.plan_text.proofs.lines.put_margin.Goals as goal
 
 pub returns-then-deadline-bound : goal.returns-then-deadline-bound

@@ -1,6 +1,6 @@
 -- The verdict, the bounds and the run are put one after the other.
 use Prim.{tt}
-use mathlib.Core.Path.{◌≡◌, sym, ap, ◌∙◌}
+use mathlib.Core.Path.{◌≡◌, sym, ap}
 use Prim.Native.Nat.{◌≤◌}
 use native.Mathlib.Omega.{arith}
 use lib.ListN.{length}
@@ -19,10 +19,6 @@ put_bounds-second-requires c = c.all_bounds-all.ensures
 pub put_run-requires : goal.put_run-requires
 put_run-requires c =
     c.requires
-
-pub shape_of-out : goal.shape_of-out
-shape_of-out c =
-    c.put_run.auto.1.0 ∙ c.put_bounds-second.auto.0 ∙ c.put_verdict-first.auto.0
 
 pub returns : goal.returns
 unfolding plan_of

@@ -1,14 +1,13 @@
 use Prim.{tt}
 use mathlib.Core.Path.{◌≡◌, refl, sym, ap, ◌∙◌}
-use Prim.Native.Nat.{◌-◌, ◌<◌}
+use Prim.Native.Nat.{◌<◌}
 use native.Mathlib.Omega.{arith}
 use Rattle.model.specs.Sets.{used}
 use Rattle.document.specs.Machine.{order_of, step_with, run_with}
 use Rattle.document.specs.Program.{run_lines_with}
 use Rattle.laws.specs.Accepted.{accepted_none}
-use Rattle.text.specs.Put.{Putting, putting_start, putting_more, putting_done}
+use Rattle.text.specs.Put.{putting_start, putting_more, putting_done}
 use Rattle.plan_text.specs.RunSlotBySlot.{run_more_law, run_last}
-use borrow.Author.Rules.{rules}
 use Rattle.plan_text.proofs.lines.put_run.Goals as goal
 
 pub loop-t-init : goal.loop-t-init

@@ -4,11 +4,7 @@ use Rattle.model.specs.Refusals.{fault_at}
 use Rattle.model.specs.declared.answers.Refusal.TheVariants.{NoRoom}
 use Rattle.text.specs.NamedLine.{refused_line_law}
 use Rattle.text.specs.Put.{put_same}
-use borrow.Author.Rules.{rules}
 use Rattle.plan_text.proofs.lines.put_too_long.Goals as goal
-
-pub shape_of-out : goal.shape_of-out
-shape_of-out c = c.put_refused.auto.0
 
 pub returns : goal.returns
 returns c =
