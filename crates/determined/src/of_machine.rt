@@ -40,6 +40,15 @@ pub fn fixed_run(s: FlowSet, budget: u32) -> TwoRan
     TwoRan(a, b)
 }
 
+pub fn step_accepted(by: Order, s: FlowSet, st: State) -> TwoStepped
+    requires { good (record_fault (used s)).refusal ≡ true }
+    ensures { result.0 ≡ result.1 }
+{
+    let a = machine::step_accepted(by, s, st);
+    let b = machine::step_accepted(by, s, st);
+    TwoStepped(a, b)
+}
+
 pub fn step_after(fault: Fault, by: Order, s: FlowSet, st: State) -> TwoStepped
     requires { fault ≡ record_fault (used s) }
     ensures { result.0 ≡ result.1 }

@@ -21,7 +21,7 @@ use Rattle.document.specs.Reader.{record_fault}
 use Rattle.model.specs.Sums.{bit}
 use Rattle.model.specs.Sets.{fresh_state, flow_at, used, any_of, memb, meet, filter_to, work}
 use Rattle.document.specs.Delay.{ways, work_at}
-use Rattle.document.specs.Machine.{release_at, deadline_at, ready, count_at, had_at, ready_at, due_at, link_of, try_of, link_at, radio_channel, send_of, ordered, order_of, place, deliveries_of, filled, no_send, no_delivery, bad_state, next_with, Priority, delivered_with, dropped_with, placed_with, sends_with, step_if_with, run_with}
+use Rattle.document.specs.Machine.{release_at, deadline_at, count_at, had_at, ready_at, due_at, link_of, try_of, link_at, radio_channel, send_of, ordered, order_of, place, deliveries_of, filled, no_send, no_delivery, bad_state, next_with, Priority, delivered_with, dropped_with, placed_with, sends_with, step_if_with, run_with}
 use Rattle.laws.specs.Accepted.{accepted}
 use Rattle.laws.specs.TestAnswers.{work_le_most}
 use Rattle.laws.specs.Used.{used_map, used_count, used_flow}

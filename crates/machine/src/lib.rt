@@ -4,7 +4,7 @@
 
 ghost use Rattle.std.specs.Prelude.{◌≡◌, true};
 ghost use Rattle.model.specs.Sets.{used};
-ghost use Rattle.document.specs.Machine.{order_of, run_of, run_with, step_of};
+ghost use Rattle.document.specs.Machine.{order_of, run_of, run_with, step_of, step_with};
 ghost use Rattle.document.specs.Fixed.{fixed_run, fixed_step, fixed_verdict_of};
 ghost use Rattle.promise.specs.Promise.{Admitted};
 
@@ -21,7 +21,7 @@ mod state;
 use crate::runs::run_accepted;
 use model::{FlowSet, Order, Ran, State, Stepped};
 pub use rows::rows_accepted;
-pub use slot::{radio_channel, step_after};
+pub use slot::{radio_channel, step_accepted, step_after};
 
 // A run in an order of priority.
 fn run_by(by: Order, s: FlowSet, budget: u32) -> Ran
@@ -56,19 +56,25 @@ pub fn fixed_run(s: FlowSet, budget: u32) -> Ran
     run_by(Order::Number, s, budget)
 }
 
+// A step in an order of priority.
+fn step_by(by: Order, s: FlowSet, st: State) -> Stepped
+    ensures { result ≡ step_with (order_of by) (used s) st }
+{
+    let fault = rules::record_fault(s);
+    step_after(fault, by, s, st)
+}
+
 // One step: what is sent, delivered and dropped in the state's slot, and the next state. Refusals in the order of document 01: the
 // record check's, 12, 11; a refused step returns the state it was given and an empty slot.
 pub fn step(s: FlowSet, st: State) -> Stepped
     ensures { result ≡ step_of (used s) st }
 {
-    let fault = rules::record_fault(s);
-    step_after(fault, Order::Deadline, s, st)
+    step_by(Order::Deadline, s, st)
 }
 
 // The same for a plant that runs fixed priority: the lower flow number goes first.
 pub fn fixed_step(s: FlowSet, st: State) -> Stepped
     ensures { result ≡ fixed_step (used s) st }
 {
-    let fault = rules::record_fault(s);
-    step_after(fault, Order::Number, s, st)
+    step_by(Order::Number, s, st)
 }

@@ -1,7 +1,7 @@
 -- `fixed_run` is the run by flow number; an admitted set's drops nothing, by the promise. Assumes nothing.
-use Rattle.machine.specs.RunKept.{fixed_never_drops}
+use Rattle.machine.specs.RunKept.{fixed_never_drops_in}
 use borrow.Author.Rules.{rules}
 use Rattle.machine.proofs.fixed_run.Goals as goal
 
 pub returns : goal.returns
-returns c = record { value = c.run_by.ensures; kept = fixed_never_drops c.args.s (search rules) c.args.budget _ c.run_by.ensures }
+returns c = record { value = c.run_by.ensures; kept = fixed_never_drops_in c.args.s (search rules) c.args.budget _ c.run_by.ensures }

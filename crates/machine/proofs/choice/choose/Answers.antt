@@ -10,7 +10,6 @@ use native.Mathlib.Omega.{arith}
 use Prim.Native.Nat.{◌<◌}
 use mathlib.Core.Path.{◌≡◌, refl}
 use borrow.Author.Rules.{rules}
-use Rattle.model.specs.Limits.{most_flows}
 use Rattle.machine.proofs.choice.choose.Goals as goal
 
 pub loop-i-init : goal.loop-i-init

@@ -1,9 +1,6 @@
-use Rattle.machine.specs.PlacedChoice.{clash_ends}
 use Rattle.laws.specs.SumLaws.{any_zero, any_next, any_in}
-use Prim.Native.Nat.{◌-◌}
-use mathlib.Core.Bool.{false}
-use mathlib.Core.Path.{◌≡◌, sym, ◌∙◌}
-use Rattle.laws.specs.Loops.{SoFar, begins, goes_on, ends}
+use mathlib.Core.Path.{sym, ◌∙◌}
+use Rattle.laws.specs.Loops.{begins, goes_on, ends}
 use borrow.Author.Rules.{rules}
 use Rattle.machine.proofs.choice.compare_with_placed.Goals as goal
 

@@ -1,11 +1,9 @@
 -- `compare_with_placed` passes the placed links that share no node. Assumes nothing.
 use Rattle.machine.specs.PlacedChoice.{clash_ends}
-use Rattle.laws.specs.SumLaws.{any_zero, any_next, any_in}
 use Prim.Native.Nat.{◌-◌}
 use mathlib.Core.Bool.{false}
-use mathlib.Core.Path.{◌≡◌, sym, ◌∙◌}
-use Rattle.laws.specs.Loops.{SoFar, begins, goes_on, ends}
-use borrow.Author.Rules.{rules}
+use mathlib.Core.Path.{◌≡◌}
+use Rattle.laws.specs.Loops.{SoFar}
 use Rattle.machine.proofs.choice.compare_with_placed.Given as goal
 
 abbrev pub invariant-loop-j : goal.invariant-loop-j

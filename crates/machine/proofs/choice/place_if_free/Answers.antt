@@ -5,7 +5,6 @@ use Rattle.machine.specs.LinkColumns.{busy_more}
 use native.Mathlib.Omega.{arith}
 use mathlib.Core.Bool.{not}
 use mathlib.Core.Path.{sym, ap, ◌∙◌}
-use borrow.Author.Rules.{rules}
 use Rattle.machine.proofs.choice.place_if_free.Goals as goal
 
 pub returns-then-shares_with_placed : goal.returns-then-shares_with_placed

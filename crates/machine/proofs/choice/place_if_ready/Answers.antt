@@ -17,7 +17,7 @@ returns-then-is_ready c =
     let a = c.args in
     let r = sym c.is_ready.ensures ∙ c.if-is_ready.true in record {
       one = placed_if_ready a.sent.now (links_of a.tries.now a.routes.now) _ _ (placing_of a.from.now a.to.now a.chosen.now a.marked.now a.placed) _ _ _ r
-      c.ends_of-a.ensures.0 c.ends_of-a.ensures.1 c.place_if_free.ensures.one;
+          c.ends_of-a.ensures.0 c.ends_of-a.ensures.1 c.place_if_free.ensures.one;
       busy = c.place_if_free.ensures.busy;
     }
 
@@ -25,6 +25,6 @@ pub returns : goal.returns
 returns c =
     let a = c.args in record {
       one = not_ready a.sent.now (links_of a.tries.now a.routes.now) _ _ (placing_of a.from.now a.to.now a.chosen.now a.marked.now a.placed)
-      (sym c.is_ready.ensures ∙ c.if-is_ready.false);
+          (sym c.is_ready.ensures ∙ c.if-is_ready.false);
       busy = c.requires.k_lt_most_flows.2;
     }

@@ -1,7 +1,6 @@
 -- `shares_with_placed` asks the placed links only if a class is marked. Assumes nothing.
 use Rattle.machine.specs.LinkColumns.{busy_free}
 use mathlib.Core.Path.{sym}
-use borrow.Author.Rules.{rules}
 use Rattle.machine.proofs.choice.shares_with_placed.Goals as goal
 
 pub returns-then-busy-g-eq0 : goal.returns-then-busy-g-eq0

@@ -1,24 +1,17 @@
 -- `columns_of` gives each flow's numbers in turn; C fits a byte since the set is accepted. Assumes nothing.
-use Rattle.machine.specs.PacketNumbers.{accepted_count, accepted_flow}
-use Rattle.machine.specs.LinkColumns.{RoutesTo, routes_none, routes_next}
-use Rattle.machine.specs.ArrayLists.{Through, through_none, through_next, set_le}
-use Rattle.laws.specs.Used.{used_flow}
-use Rattle.model.specs.Sets.{work, flow_at, used}
+use Rattle.machine.specs.LinkColumns.{RoutesTo}
+use Rattle.machine.specs.ArrayLists.{Through}
+use Rattle.model.specs.Sets.{flow_at, used}
 use Rattle.document.specs.Delay.{work_at}
-use Rattle.model.specs.declared.kinds.Flow.{Flow}
-use lib.ListN.{get_or, length, length-set}
-use native.Mathlib.Omega.{arith}
-use Prim.{tt}
+use lib.ListN.{get_or, length}
 use Prim.Native.Nat.{ℕ, ◌-◌, ◌≤◌, ◌<◌}
-use mathlib.Core.Path.{◌≡◌, sym, ap, ◌∙◌}
-use Rattle.laws.specs.Loops.{SoFar, begins, goes_on, ends}
-use borrow.Author.Rules.{rules}
+use mathlib.Core.Path.{◌≡◌}
+use Rattle.laws.specs.Loops.{SoFar}
 use Rattle.model.specs.Limits.{most_flows}
-use Rattle.laws.specs.Accepted.{work_small}
 use Rattle.machine.proofs.columns.columns_of.Given as goal
 
 abbrev pub invariant-loop-k : goal.invariant-loop-k
-invariant-loop-k l =     SoFar l.count
+invariant-loop-k l = SoFar l.count
     (λ i. (l.count ≤ most_flows)
     × Through (λ j. (flow_at (used l.s) j).start) i l.initial.start l.start
     × Through (λ j. (flow_at (used l.s) j).period.0) i l.initial.period l.period

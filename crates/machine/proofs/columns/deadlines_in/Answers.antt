@@ -1,11 +1,9 @@
-use Rattle.machine.specs.PacketNumbers.{due_by, due_fits}
-use Rattle.machine.specs.ArrayLists.{Through, through_none, through_next}
+use Rattle.machine.specs.PacketNumbers.{due_fits}
+use Rattle.machine.specs.ArrayLists.{through_none, through_next}
 use native.Mathlib.Omega.{arith}
 use Prim.{tt}
-use Prim.Native.Nat.{◌-◌}
 use mathlib.Core.Path.{◌∙◌}
-use Rattle.laws.specs.Loops.{SoFar, begins, goes_on, ends}
-use borrow.Author.Rules.{rules}
+use Rattle.laws.specs.Loops.{begins, goes_on, ends}
 use Rattle.machine.proofs.columns.deadlines_in.Goals as goal
 
 pub loop-k-preserved : goal.loop-k-preserved

@@ -1,12 +1,8 @@
 -- `deadlines_in` gives each flow's deadline in turn. Assumes nothing.
-use Rattle.machine.specs.PacketNumbers.{due_by, due_fits}
-use Rattle.machine.specs.ArrayLists.{Through, through_none, through_next}
-use native.Mathlib.Omega.{arith}
-use Prim.{tt}
+use Rattle.machine.specs.PacketNumbers.{due_by}
+use Rattle.machine.specs.ArrayLists.{Through}
 use Prim.Native.Nat.{◌-◌}
-use mathlib.Core.Path.{◌∙◌}
-use Rattle.laws.specs.Loops.{SoFar, begins, goes_on, ends}
-use borrow.Author.Rules.{rules}
+use Rattle.laws.specs.Loops.{SoFar}
 use Rattle.machine.proofs.columns.deadlines_in.Given as goal
 
 abbrev pub invariant-loop-k : goal.invariant-loop-k

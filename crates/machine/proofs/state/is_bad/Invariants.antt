@@ -1,13 +1,10 @@
 -- `is_bad` tests the slot and then each count. Assumes nothing.
-use Rattle.laws.specs.SumLaws.{any_zero, any_next, any_in}
 use Rattle.model.specs.Sums.{any_to}
 use lib.ListN.{get_or}
 use lib.Dec.{ltb}
-use borrow.Author.Tests.{lt-ltb, le-ltb}
 use Prim.Native.Nat.{◌-◌, ◌≤◌}
-use mathlib.Core.Bool.{Bool, false, ◌||◌, or-true}
-use mathlib.Core.Path.{◌≡◌, sym, ap, ◌∙◌}
-use borrow.Author.Rules.{rules}
+use mathlib.Core.Bool.{false}
+use mathlib.Core.Path.{◌≡◌}
 use Rattle.model.specs.Limits.{last_slot, most_flows}
 use Rattle.machine.proofs.state.is_bad.Given as goal
 

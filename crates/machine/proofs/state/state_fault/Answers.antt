@@ -1,7 +1,6 @@
 -- `state_fault` tests for 12 and then for 11. Assumes nothing.
 use borrow.Author.Tests.{le-leb, lt-leb}
 use mathlib.Core.Path.{sym, ◌∙◌}
-use borrow.Author.Rules.{rules}
 use Rattle.machine.proofs.state.state_fault.Goals as goal
 
 pub returns-then-is_bad : goal.returns-then-is_bad

@@ -1,0 +1,10 @@
+-- `rembasuk_superframe_size` numbers the size of what was read. Assumes nothing.
+use mathlib.Core.Path.{ap, ◌∙◌}
+use Rattle.document.specs.ForC.{size_for_c, size_of_reading, superframe_numbers}
+use borrow.Author.Rules.{rules}
+use Rattle.planner.proofs.rembasuk_superframe_size.Goals as goal
+
+pub returns : goal.returns
+unfolding size_for_c
+returns c =
+    c.superframe_numbers.ensures ∙ ap superframe_numbers (c.size_of_reading-size.ensures ∙ ap size_of_reading c.read-reading.ensures.value)

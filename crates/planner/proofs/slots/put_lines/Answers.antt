@@ -1,0 +1,6 @@
+-- `put_lines` puts from place 0 on. Assumes nothing.
+use borrow.Author.Rules.{rules}
+use Rattle.planner.proofs.slots.put_lines.Goals as goal
+
+pub returns : goal.returns
+returns c = c.put_sends.ensures
