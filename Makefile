@@ -12,7 +12,8 @@ export PREFIX DESTDIR
 .DELETE_ON_ERROR:
 
 all:
-	rt check
+	rt all check
+	$(MAKE) $(PROGRAMS:%=target/bin/%)
 
 test: all
 	tests/plan/run
@@ -21,18 +22,16 @@ test: all
 	tests/examples/run
 	tests/requests/run
 
-# An archive is built, and its crate proved, again only where something that it is made of is newer; a folder is newer where a file was
-# taken away.
-SOURCES := crates.txt $(shell find crates -type d ! -name must-fail -o -name '*.rt' -o -name '*.antt')
+# A program or an archive is built, and what is not proved yet is proved, only where something that it is made of is newer; a folder is newer where
+# a file was taken away.
+SOURCES := crates.txt $(shell find crates/*/src crates/*/specs crates/*/proofs -type d -o -name '*.rt' -o -name '*.antt' 2> /dev/null)
+PROGRAMS := plan superframe fixed
 
 target/staticlib/lib%.a: $(SOURCES)
-	rt staticlib $*
+	tools/build $*
 
-# the kit leaves a program alone that is as its sources say
-PROGRAMS := plan superframe fixed
 $(PROGRAMS:%=target/bin/%): target/bin/%: $(SOURCES)
-	rt check $*
-	touch $@
+	tools/build $*
 
 # What is installed: the programs, the library for C with its header and pkg-config file, a manual page of each.
 FILES := $(PROGRAMS:%=bin/%) include/rembasuk.h lib/librembasuk.a lib/pkgconfig/rembasuk.pc $(PROGRAMS:%=share/man/man1/%.1) share/man/man3/rembasuk.3

@@ -1,4 +1,4 @@
-//! Links the proved planner's archives, which `rt staticlib` leaves below the repository's root.
+//! Links the proved planner's archives, which `tools/build` leaves below the repository's root.
 
 fn main() {
     let root = std::path::Path::new(env!("CARGO_MANIFEST_DIR")).join("../..");
