@@ -215,29 +215,32 @@ fn list_routes(
     }
 }
 
+// S of each flow with the flows up to it alone, or with every flow.
+fn conflict_work(below: bool, s: FlowSet, t: &mut [u16; PAIRS])
+    requires { Accepted (used s) × RowsBy (conflict_of (used s)) (columns_of below s.count) 0 t.old }
+    ensures { RowsBy (conflict_of (used s)) (columns_of below s.count) s.count t.new }
+{
+    let mut routes = [[0u16; Flow::MOST_NODES]; Flow::MOST];
+    let mut links = [0u16; Flow::MOST];
+    let mut tries = [0u16; Flow::MOST];
+    list_routes(s, &mut routes, &mut links, &mut tries);
+    conflict_rows(below, s.count as usize, &routes, &links, &tries, t);
+}
+
 // S of every pair of flows.
 pub fn conflict_work_of_all(s: FlowSet, t: &mut [u16; PAIRS])
     requires { Accepted (used s) × RowsTo (conflict_of (used s)) s.count 0 t.old }
     ensures { RowsTo (conflict_of (used s)) s.count s.count t.new }
 {
-    let mut routes = [[0u16; Flow::MOST_NODES]; Flow::MOST];
-    let mut links = [0u16; Flow::MOST];
-    let mut tries = [0u16; Flow::MOST];
-    list_routes(s, &mut routes, &mut links, &mut tries);
-    conflict_rows(false, s.count as usize, &routes, &links, &tries, t);
+    conflict_work(false, s, t);
 }
 
-// S of the pairs that fixed priority asks for: of a flow and those below it, which go first. With one function for both, the set would be
-// copied once more.
+// S of the pairs that fixed priority asks for: of a flow and those below it, which go first.
 pub fn conflict_work_below(s: FlowSet, t: &mut [u16; PAIRS])
     requires { Accepted (used s) × RowsBelow (conflict_of (used s)) 0 t.old }
     ensures { RowsBelow (conflict_of (used s)) s.count t.new }
 {
-    let mut routes = [[0u16; Flow::MOST_NODES]; Flow::MOST];
-    let mut links = [0u16; Flow::MOST];
-    let mut tries = [0u16; Flow::MOST];
-    list_routes(s, &mut routes, &mut links, &mut tries);
-    conflict_rows(true, s.count as usize, &routes, &links, &tries, t);
+    conflict_work(true, s, t);
 }
 
 // How many pairs of flows a set can have: row k, column l of a grid is at k times the most flows, plus l.

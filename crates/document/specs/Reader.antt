@@ -1,6 +1,6 @@
 -- Document 01, "Refusal numbers" 1 to 9, the reader, the record check and the writer. What request 3 adds to a refusal of the reader, the
 -- field, is computed beside the refusal: no rule asks for it.
-use mathlib.Core.{Path.{◌≡◌}, Bool.{Bool, true, false, not, ◌&&◌, ◌||◌, cond}, List.{List, [], ◌∷◌, ◌++◌}}
+use mathlib.Core.{Path.{◌≡◌}, Bool.{true, false, ◌&&◌, ◌||◌, cond}, List.{List, [], ◌∷◌, ◌++◌}}
 use Rattle.std.specs.Prelude.{ℕ, zero, suc, ◌+◌, ◌-◌, ◌*◌, ◌≤◌, ◌<◌}
 use lib.{Dec.{leb, ltb, eqb}, ListN.{length, get_or, take, drop, set, replicate}}
 use Rattle.model.specs.declared.kinds.{Flow.{Flow}, FlowSet.{FlowSet}}

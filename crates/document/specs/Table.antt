@@ -4,7 +4,7 @@
 -- and the sets of request 4.
 -- The sets are their texts, run through the reader's definition; the checker computes the rest.
 use mathlib.Core.{Bool.{Bool, true, false, not, ◌&&◌}, List.{List, [], ◌∷◌, ◌++◌}}
-use Prim.Native.{Char.{code}, Nat.{ℕ, zero, suc, ◌+◌}}
+use Prim.Native.{Char.{code}, Nat.{ℕ, zero, suc}}
 use Prim.Native.String as string
 use lib.{Count.{ones, ones_in}, Dec.{eqb, T}, IntN.{ℤ, pos, negsuc}, ListN.{length, take, replicate}}
 use Rattle.model.specs.declared.kinds.FlowSet.{FlowSet}

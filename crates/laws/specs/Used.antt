@@ -1,6 +1,6 @@
 -- What `used` keeps: the map, the count, and each flow below the count without the entries beyond its route's end. So two records
 -- that are the same set have the same answers, since every answer is a function of what is kept.
-use Rattle.std.specs.Prelude.{◌≡◌, refl, map, ℕ, ◌<◌, take}
+use Rattle.std.specs.Prelude.{◌≡◌, refl, ℕ, ◌<◌, take}
 use Rattle.std.proofs.Common.{ap, ◌∙◌, get_or-take}
 use Rattle.std.proofs.Math.ListN.{get_or-map}
 use Rattle.model.specs.declared.kinds.FlowSet.{FlowSet}

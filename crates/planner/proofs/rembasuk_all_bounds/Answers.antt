@@ -3,7 +3,6 @@ use mathlib.Core.Path.{ap, ◌∙◌}
 use lib.ListN.{length}
 use Rattle.model.specs.declared.answers.Reading.{Reading}
 use Rattle.document.specs.ForC.{all_bounds_for_c, table_after, table_answer, table_numbers}
-use borrow.Author.Rules.{rules}
 use Rattle.planner.proofs.rembasuk_all_bounds.Goals as goal
 
 pub returns : goal.returns

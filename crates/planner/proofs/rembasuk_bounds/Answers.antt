@@ -2,7 +2,6 @@
 use mathlib.Core.Path.{ap, ◌∙◌}
 use Rattle.model.specs.declared.answers.Reading.{Reading}
 use Rattle.document.specs.ForC.{bounds_for_c, bounds_numbers, bounds_of_reading}
-use borrow.Author.Rules.{rules}
 use Rattle.planner.proofs.rembasuk_bounds.Goals as goal
 
 pub returns : goal.returns

@@ -1,5 +1,4 @@
 -- `rembasuk_fixed_slot` is `slot_of_text` with fixed priority. Assumes nothing.
-use borrow.Author.Rules.{rules}
 use Rattle.planner.proofs.rembasuk_fixed_slot.Goals as goal
 
 pub returns : goal.returns

@@ -1,7 +1,6 @@
 -- `rembasuk_fixed_verdict` numbers the verdict for fixed priority of what was read. Assumes nothing.
 use mathlib.Core.Path.{ap, ◌∙◌}
 use Rattle.document.specs.ForC.{fixed_verdict_for_c, fixed_verdict_numbers, fixed_verdict_of_reading}
-use borrow.Author.Rules.{rules}
 use Rattle.planner.proofs.rembasuk_fixed_verdict.Goals as goal
 
 pub returns : goal.returns

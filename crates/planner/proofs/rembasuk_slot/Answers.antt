@@ -1,5 +1,4 @@
 -- `rembasuk_slot` is `slot_of_text` with document 01's order. Assumes nothing.
-use borrow.Author.Rules.{rules}
 use Rattle.planner.proofs.rembasuk_slot.Goals as goal
 
 pub returns : goal.returns

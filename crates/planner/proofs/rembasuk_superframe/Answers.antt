@@ -3,7 +3,6 @@ use mathlib.Core.Path.{ap, ◌∙◌}
 use lib.ListN.{length}
 use Rattle.model.specs.declared.answers.Reading.{Reading}
 use Rattle.document.specs.ForC.{superframe_for_c, superframe_after, superframe_of_reading, superframe_numbers}
-use borrow.Author.Rules.{rules}
 use Rattle.planner.proofs.rembasuk_superframe.Goals as goal
 
 pub returns : goal.returns

@@ -1,7 +1,6 @@
 -- `rembasuk_superframe_size` numbers the size of what was read. Assumes nothing.
 use mathlib.Core.Path.{ap, ◌∙◌}
 use Rattle.document.specs.ForC.{size_for_c, size_of_reading, superframe_numbers}
-use borrow.Author.Rules.{rules}
 use Rattle.planner.proofs.rembasuk_superframe_size.Goals as goal
 
 pub returns : goal.returns

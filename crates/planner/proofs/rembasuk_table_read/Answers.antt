@@ -1,7 +1,6 @@
 -- `rembasuk_table_read` numbers what `read_table` ensures, and hands its table on. Assumes nothing.
 use mathlib.Core.Path.{ap, ◌∙◌}
 use Rattle.document.specs.ForC.{read_numbers, read_table_for_c}
-use borrow.Author.Rules.{rules}
 use Rattle.planner.proofs.rembasuk_table_read.Goals as goal
 
 pub returns : goal.returns

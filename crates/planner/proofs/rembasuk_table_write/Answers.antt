@@ -1,7 +1,6 @@
 -- `rembasuk_table_write` numbers what `write_table` ensures, and hands its buffer on. Assumes nothing.
 use mathlib.Core.Path.{ap, ◌∙◌}
 use Rattle.document.specs.ForC.{lines_numbers, write_table_for_c}
-use borrow.Author.Rules.{rules}
 use Rattle.planner.proofs.rembasuk_table_write.Goals as goal
 
 pub returns : goal.returns

@@ -1,7 +1,6 @@
 -- `rembasuk_verdict` numbers the verdict of what was read. Assumes nothing.
 use mathlib.Core.Path.{ap, ◌∙◌}
 use Rattle.document.specs.ForC.{verdict_for_c, verdict_numbers, verdict_of_reading}
-use borrow.Author.Rules.{rules}
 use Rattle.planner.proofs.rembasuk_verdict.Goals as goal
 
 pub returns : goal.returns

@@ -2,7 +2,6 @@
 use mathlib.Core.Path.{ap}
 use Prim.Native.Nat.{ℕ}
 use Rattle.probe.specs.RecordNumbers.{numbered}
-use borrow.Author.Rules.{rules}
 use Rattle.probe.proofs.fault_numbers.Goals as goal
 
 pub returns : goal.returns

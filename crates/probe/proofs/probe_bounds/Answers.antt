@@ -1,7 +1,6 @@
 -- `probe_bounds` numbers what the bounds ensures. Assumes nothing.
 use mathlib.Core.Path.{ap, ◌∙◌}
 use Rattle.document.specs.ForC.{bounds_numbers}
-use borrow.Author.Rules.{rules}
 use Rattle.probe.proofs.probe_bounds.Goals as goal
 
 pub returns : goal.returns

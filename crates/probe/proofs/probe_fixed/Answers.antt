@@ -1,5 +1,4 @@
 -- `probe_fixed` numbers what the text for fixed priority ensures, and hands its buffer on. Assumes nothing.
-use Prim.{tt}
 use mathlib.Core.Path.{ap, ◌∙◌}
 use Rattle.document.specs.ForC.{slot_numbers}
 use Rattle.probe.proofs.probe_fixed.Goals as goal

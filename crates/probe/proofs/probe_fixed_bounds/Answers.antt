@@ -1,7 +1,6 @@
 -- `probe_fixed_bounds` numbers what the bound with fixed priority ensures. Assumes nothing.
 use mathlib.Core.Path.{ap, ◌∙◌}
 use Rattle.document.specs.ForC.{fixed_bounds_numbers}
-use borrow.Author.Rules.{rules}
 use Rattle.probe.proofs.probe_fixed_bounds.Goals as goal
 
 pub returns : goal.returns

@@ -1,7 +1,6 @@
 -- `probe_fixed_run` numbers what the run with fixed priority ensures. Assumes nothing.
 use mathlib.Core.Path.{ap, ◌∙◌}
 use Rattle.probe.specs.RecordNumbers.{ran_numbers}
-use borrow.Author.Rules.{rules}
 use Rattle.probe.proofs.probe_fixed_run.Goals as goal
 
 pub returns : goal.returns

@@ -1,7 +1,6 @@
 -- `probe_fixed_step` numbers what the step with fixed priority ensures. Assumes nothing.
 use mathlib.Core.Path.{ap, ◌∙◌}
 use Rattle.probe.specs.RecordNumbers.{stepped_numbers}
-use borrow.Author.Rules.{rules}
 use Rattle.probe.proofs.probe_fixed_step.Goals as goal
 
 pub returns : goal.returns

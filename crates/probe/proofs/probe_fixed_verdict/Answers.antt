@@ -1,7 +1,6 @@
 -- `probe_fixed_verdict` numbers what the verdict for fixed priority ensures. Assumes nothing.
 use mathlib.Core.Path.{ap, ◌∙◌}
 use Rattle.document.specs.ForC.{fixed_verdict_numbers}
-use borrow.Author.Rules.{rules}
 use Rattle.probe.proofs.probe_fixed_verdict.Goals as goal
 
 pub returns : goal.returns

@@ -1,5 +1,4 @@
 -- `probe_plan` numbers what the plan ensures, and hands its buffer on. Assumes nothing.
-use Prim.{tt}
 use mathlib.Core.Path.{ap, ◌∙◌}
 use Rattle.document.specs.ForC.{slot_numbers}
 use Rattle.probe.proofs.probe_plan.Goals as goal

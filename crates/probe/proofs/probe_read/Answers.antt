@@ -1,7 +1,6 @@
 -- `probe_read` numbers what the reader ensures. Assumes nothing.
 use mathlib.Core.Path.{ap, ◌∙◌}
 use Rattle.probe.specs.RecordNumbers.{reading_numbers}
-use borrow.Author.Rules.{rules}
 use Rattle.probe.proofs.probe_read.Goals as goal
 
 pub returns : goal.returns

@@ -1,7 +1,6 @@
 -- `probe_record_fault` numbers what the record check ensures. Assumes nothing.
 use mathlib.Core.Path.{ap, ◌∙◌}
 use Rattle.probe.specs.RecordNumbers.{fault_numbers}
-use borrow.Author.Rules.{rules}
 use Rattle.probe.proofs.probe_record_fault.Goals as goal
 
 pub returns : goal.returns

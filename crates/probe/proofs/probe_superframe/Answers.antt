@@ -1,7 +1,6 @@
 -- `probe_superframe` numbers what the superframe ensures, and hands its table on. Assumes nothing.
 use mathlib.Core.Path.{ap, ◌∙◌}
 use Rattle.document.specs.ForC.{superframe_numbers}
-use borrow.Author.Rules.{rules}
 use Rattle.probe.proofs.probe_superframe.Goals as goal
 
 pub returns : goal.returns

@@ -1,7 +1,6 @@
 -- `probe_superframe_size` numbers what the size ensures. Assumes nothing.
 use mathlib.Core.Path.{ap, ◌∙◌}
 use Rattle.document.specs.ForC.{superframe_numbers}
-use borrow.Author.Rules.{rules}
 use Rattle.probe.proofs.probe_superframe_size.Goals as goal
 
 pub returns : goal.returns

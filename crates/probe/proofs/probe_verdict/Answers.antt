@@ -1,7 +1,6 @@
 -- `probe_verdict` numbers what the verdict ensures. Assumes nothing.
 use mathlib.Core.Path.{ap, ◌∙◌}
 use Rattle.document.specs.ForC.{verdict_numbers}
-use borrow.Author.Rules.{rules}
 use Rattle.probe.proofs.probe_verdict.Goals as goal
 
 pub returns : goal.returns

@@ -1,7 +1,6 @@
 -- `probe_write` numbers what the writer ensures, and hands its buffer on. Assumes nothing.
 use mathlib.Core.Path.{ap, ◌∙◌}
 use Rattle.document.specs.ForC.{slot_numbers}
-use borrow.Author.Rules.{rules}
 use Rattle.probe.proofs.probe_write.Goals as goal
 
 pub returns : goal.returns

@@ -2,7 +2,6 @@
 use mathlib.Core.Path.{ap}
 use Rattle.probe.specs.declared.ProbeFault.{ProbeFault}
 use Rattle.probe.specs.RecordNumbers.{with_reading}
-use borrow.Author.Rules.{rules}
 use Rattle.probe.proofs.reading_numbers.Goals as goal
 
 pub returns : goal.returns

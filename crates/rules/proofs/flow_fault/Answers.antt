@@ -1,7 +1,6 @@
 -- `flow_fault` is rules 3 to 9 in their order: each return is the first test of the chain that passes, the last the rules from 7 on. Assumes nothing.
 use mathlib.Core.Path.{◌≡◌}
 use mathlib.Core.Bool.{true, false, ◌||◌}
-use borrow.Author.Rules.{rules}
 use borrow.Author.Tests.{eq-eqb, ne_eqb, le-leb, lt-leb}
 use lib.Dec.{eqb, ltb}
 use Rattle.document.specs.Reader.{flow_fault}

@@ -1,12 +1,8 @@
 -- `flows_fault` judges the flows in order: what is left has the same first fault at each number. Assumes nothing.
-use mathlib.Core.Path.{◌≡◌, refl, sym, ap, ◌∙◌}
+use mathlib.Core.Path.{◌≡◌}
 use Prim.Native.Nat.{◌-◌, ◌≤◌}
-use native.Mathlib.Omega.{arith}
-use borrow.Author.Rules.{rules}
-use Rattle.model.specs.declared.answers.Refusal.TheVariants.{TooManyFlows}
 use Rattle.model.specs.Sets.{used}
 use Rattle.document.specs.Reader.{flows_fault}
-use Rattle.rules.specs.RecordFlows.{flows_here, flows_on, flows_end, flow_fault_at, too_many}
 use Rattle.model.specs.Limits.{most_flows}
 use Rattle.rules.proofs.flows_fault.Given as goal
 

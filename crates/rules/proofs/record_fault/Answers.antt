@@ -1,6 +1,5 @@
 -- `record_fault` is the map's fault and then the flows'. Assumes nothing.
 use mathlib.Core.Path.{sym, ◌∙◌}
-use borrow.Author.Rules.{rules}
 use Rattle.rules.specs.RecordFlows.{record_first, record_on}
 use Rattle.rules.proofs.record_fault.Goals as goal
 

@@ -5,7 +5,6 @@ use Rattle.document.specs.Delay.{bounds_of}
 use Rattle.document.specs.ForC.{bounds_of_reading}
 use Rattle.planner.specs.FlowBeyondLast.{bounds_cut}
 use Rattle.laws.specs.Codes.{accepts, refuses}
-use borrow.Author.Rules.{rules}
 use Rattle.planner.proofs.answers.bounds_of_reading.Goals as goal
 
 pub returns-then-refuses : goal.returns-then-refuses

@@ -1,6 +1,5 @@
 -- `flow_number` makes the definition's choice. Assumes nothing.
 use borrow.Author.Tests.{lt-ltb, le-ltb}
-use borrow.Author.Rules.{rules}
 use Rattle.planner.proofs.answers.flow_number.Goals as goal
 
 pub returns-then-flow-count : goal.returns-then-flow-count

@@ -1,6 +1,5 @@
 -- `slot_numbers` gives the number that `code` ensures. Assumes nothing.
 use Rattle.planner.specs.AnswersInNumbers.{slot_numbers_law}
-use borrow.Author.Rules.{rules}
 use Rattle.planner.proofs.answers.slot_numbers.Goals as goal
 
 pub returns : goal.returns

@@ -1,6 +1,5 @@
 -- `table_numbers` gives the number that `code` ensures. Assumes nothing.
 use Rattle.planner.specs.AnswersInNumbers.{table_numbers_law}
-use borrow.Author.Rules.{rules}
 use Rattle.planner.proofs.answers.table_numbers.Goals as goal
 
 pub returns : goal.returns

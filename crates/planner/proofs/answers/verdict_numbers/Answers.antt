@@ -1,6 +1,5 @@
 -- `verdict_numbers` gives the numbers that `code` and `bit` ensure. Assumes nothing.
 use Rattle.planner.specs.AnswersInNumbers.{verdict_numbers_law}
-use borrow.Author.Rules.{rules}
 use Rattle.planner.proofs.answers.verdict_numbers.Goals as goal
 
 pub returns : goal.returns

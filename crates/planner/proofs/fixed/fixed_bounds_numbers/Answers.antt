@@ -1,6 +1,5 @@
 -- `fixed_bounds_numbers` gives the numbers that `code` and `bit` ensure. Assumes nothing.
 use Rattle.planner.specs.AnswersInNumbers.{fixed_bounds_numbers_law}
-use borrow.Author.Rules.{rules}
 use Rattle.planner.proofs.fixed.fixed_bounds_numbers.Goals as goal
 
 pub returns : goal.returns

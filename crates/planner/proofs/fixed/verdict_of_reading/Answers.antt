@@ -1,7 +1,6 @@
 -- `verdict_of_reading` goes by whether the reader refuses, as the definition does. Assumes nothing.
 use Rattle.document.specs.ForC.{fixed_verdict_of_reading}
 use Rattle.laws.specs.Codes.{accepts, refuses}
-use borrow.Author.Rules.{rules}
 use Rattle.planner.proofs.fixed.verdict_of_reading.Goals as goal
 
 pub returns-then-refuses : goal.returns-then-refuses

@@ -2,7 +2,6 @@
 use mathlib.Core.Path.{ap, ◌∙◌}
 use Rattle.model.specs.Refusals.{or_else}
 use Rattle.planner.specs.BeforeStep.{fault_before_step}
-use borrow.Author.Rules.{rules}
 use Rattle.planner.proofs.slots.fault_before_step.Goals as goal
 
 pub returns : goal.returns

@@ -1,6 +1,5 @@
 -- `length_fault` tests the length. Assumes nothing.
 use borrow.Author.Tests.{eq-eqb, ne_eqb}
-use borrow.Author.Rules.{rules}
 use Rattle.document.specs.Program.{state_length}
 use Rattle.planner.proofs.slots.length_fault.Goals as goal
 

@@ -2,7 +2,6 @@
 use native.Mathlib.Nat.{le_trans, le_of_eq}
 use native.Mathlib.Omega.{arith}
 use Rattle.text.specs.Lengths.{put_length, sends_take_le}
-use borrow.Author.Rules.{rules}
 use Rattle.model.specs.Limits.{most_channels}
 use Rattle.planner.proofs.slots.lines_length.Goals as goal
 

@@ -1,5 +1,4 @@
 -- `put_lines` puts from place 0 on. Assumes nothing.
-use borrow.Author.Rules.{rules}
 use Rattle.planner.proofs.slots.put_lines.Goals as goal
 
 pub returns : goal.returns

@@ -6,7 +6,6 @@ use Rattle.document.specs.Program.{slot_state_with, slot_buffer_with}
 use Rattle.document.specs.ForC.{slot_answer_with, slot_for_c_with, slot_numbers}
 use Rattle.document.specs.Machine.{order_of}
 use Rattle.promise.specs.TextHeld.{text_passes}
-use borrow.Author.Rules.{rules}
 use Rattle.planner.proofs.slots.slot_of_text.Goals as goal
 
 pub slot_of_reading-written-requires : goal.slot_of_reading-written-requires

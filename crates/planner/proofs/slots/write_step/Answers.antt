@@ -8,7 +8,6 @@ use Rattle.text.specs.Lengths.{put_start}
 use Rattle.planner.specs.AfterStep.{left_refused, left_no_room, left_written}
 use Rattle.laws.specs.Codes.{accepts, refuses}
 use Rattle.planner.specs.StepWritten.{step_lines, written}
-use borrow.Author.Rules.{rules}
 use Rattle.planner.proofs.slots.write_step.Goals as goal
 
 pub returns-then-refuses : goal.returns-then-refuses

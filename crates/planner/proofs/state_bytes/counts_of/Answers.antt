@@ -1,11 +1,9 @@
 use mathlib.Core.List.{[]}
 use native.Mathlib.Omega.{arith}
 use Rattle.planner.specs.StateCopy.{copy_after, copy_all}
-use mathlib.Core.Path.{◌≡◌}
-use Prim.Native.Nat.{◌≤◌, ◌-◌}
-use lib.ListN.{length, take, drop, length-drop}
+use Prim.Native.Nat.{◌≤◌}
+use lib.ListN.{length, drop, length-drop}
 use borrow.Author.Rules.{rules}
-use Rattle.model.specs.Limits.{most_flows}
 use Rattle.planner.proofs.state_bytes.counts_of.Goals as goal
 
 pub loop-k-preserved : goal.loop-k-preserved

@@ -1,11 +1,7 @@
 -- `counts_of` copies byte k + 4 to place k; what is copied so far is what stood there. Assumes nothing.
-use mathlib.Core.List.{[]}
-use native.Mathlib.Omega.{arith}
-use Rattle.planner.specs.StateCopy.{copy_after, copy_all}
 use mathlib.Core.Path.{◌≡◌}
 use Prim.Native.Nat.{◌≤◌, ◌-◌}
-use lib.ListN.{length, take, drop, length-drop}
-use borrow.Author.Rules.{rules}
+use lib.ListN.{length, take, drop}
 use Rattle.model.specs.Limits.{most_flows}
 use Rattle.planner.proofs.state_bytes.counts_of.Given as goal
 

@@ -3,12 +3,9 @@ use mathlib.Core.List.{append-nil}
 use native.Mathlib.Omega.{arith}
 use Rattle.planner.specs.StateCopy.{copy_more, copy_all}
 use mathlib.Core.Path.{◌≡◌}
-use mathlib.Core.List.{◌++◌}
-use Prim.Native.Nat.{◌≤◌, ◌-◌, ◌+◌}
-use lib.ListN.{length, take}
+use Prim.Native.Nat.{◌+◌}
+use lib.ListN.{take}
 use borrow.Author.Rules.{rules}
-use Rattle.model.specs.Limits.{most_flows}
-use Rattle.document.specs.Program.{state_length}
 use Rattle.planner.proofs.state_bytes.put_counts.Goals as goal
 
 pub loop-k-init : goal.loop-k-init

@@ -1,13 +1,8 @@
 -- `put_counts` copies count k to place k + 4; what is copied so far is what the counts begin with. Assumes nothing.
-use mathlib.Core.Path.{sym}
-use mathlib.Core.List.{append-nil}
-use native.Mathlib.Omega.{arith}
-use Rattle.planner.specs.StateCopy.{copy_more, copy_all}
 use mathlib.Core.Path.{◌≡◌}
 use mathlib.Core.List.{◌++◌}
 use Prim.Native.Nat.{◌≤◌, ◌-◌, ◌+◌}
 use lib.ListN.{length, take}
-use borrow.Author.Rules.{rules}
 use Rattle.model.specs.Limits.{most_flows}
 use Rattle.document.specs.Program.{state_length}
 use Rattle.planner.proofs.state_bytes.put_counts.Given as goal

@@ -5,7 +5,6 @@ use Prim.Native.Nat.{ℕ}
 use native.Mathlib.Omega.{arith}
 use lib.ListN.{get_or, drop}
 use Rattle.planner.specs.StateCopy.{set_four}
-use borrow.Author.Rules.{rules}
 use Rattle.planner.proofs.state_bytes.put_slot.Goals as goal
 
 pub returns : goal.returns

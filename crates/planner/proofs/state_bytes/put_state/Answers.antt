@@ -1,7 +1,6 @@
 -- `put_state` writes over 68 bytes, and leaves others. Assumes nothing.
 use mathlib.Core.Path.{sym, ◌∙◌}
 use Rattle.planner.specs.StateBytes.{with_state_law, with_none}
-use borrow.Author.Rules.{rules}
 use Rattle.planner.proofs.state_bytes.put_state.Goals as goal
 
 pub returns-then-b-eq-LENGTH : goal.returns-then-b-eq-LENGTH

@@ -2,7 +2,6 @@
 use mathlib.Core.Path.{ap₂}
 use Rattle.planner.specs.StateBytes.{state_from}
 use Rattle.document.specs.Program.{state_of}
-use borrow.Author.Rules.{rules}
 use Rattle.planner.proofs.state_bytes.read_state.Goals as goal
 
 pub returns : goal.returns

@@ -1,7 +1,6 @@
 -- `state_of` reads 68 bytes, and takes the fresh state of others. Assumes nothing.
 use mathlib.Core.Path.{sym, ◌∙◌}
 use Rattle.planner.specs.StateBytes.{state_in_law, state_none}
-use borrow.Author.Rules.{rules}
 use Rattle.planner.proofs.state_bytes.state_of.Goals as goal
 
 pub returns-then-b-eq-LENGTH : goal.returns-then-b-eq-LENGTH

@@ -7,7 +7,6 @@ use lib.ListN.{take, drop}
 use lib.Seq.{drop_at, length-take-le}
 use Rattle.planner.specs.SlotBytes.{slot_bytes}
 use Rattle.document.specs.Program.{state_bytes}
-use borrow.Author.Rules.{rules}
 use Rattle.planner.proofs.state_bytes.write_state.Goals as goal
 
 pub returns : goal.returns

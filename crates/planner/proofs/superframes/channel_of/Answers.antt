@@ -2,7 +2,6 @@
 use mathlib.Core.Path.{ap, ◌∙◌}
 use Prim.Native.Nat.{ℕ}
 use borrow.Author.Tests.{lt-ltb, le-ltb}
-use borrow.Author.Rules.{rules}
 use Rattle.document.specs.Machine.{radio_channel}
 use Rattle.document.specs.ForC.{channel_for_c}
 use Rattle.planner.proofs.superframes.channel_of.Goals as goal

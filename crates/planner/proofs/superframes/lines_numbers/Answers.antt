@@ -1,6 +1,5 @@
 -- `lines_numbers` gives the number that `code` ensures. Assumes nothing.
 use Rattle.planner.specs.AnswersInNumbers.{lines_numbers_law}
-use borrow.Author.Rules.{rules}
 use Rattle.planner.proofs.superframes.lines_numbers.Goals as goal
 
 pub returns : goal.returns

@@ -1,6 +1,5 @@
 -- `read_numbers` gives the number that `code` ensures. Assumes nothing.
 use Rattle.planner.specs.AnswersInNumbers.{read_numbers_law}
-use borrow.Author.Rules.{rules}
 use Rattle.planner.proofs.superframes.read_numbers.Goals as goal
 
 pub returns : goal.returns

@@ -1,7 +1,6 @@
 -- `size_of_reading` goes by whether the reader refuses. Assumes nothing.
 use Rattle.document.specs.ForC.{size_of_reading}
 use Rattle.laws.specs.Codes.{accepts, refuses}
-use borrow.Author.Rules.{rules}
 use Rattle.planner.proofs.superframes.size_of_reading.Goals as goal
 
 pub returns-then-refuses : goal.returns-then-refuses

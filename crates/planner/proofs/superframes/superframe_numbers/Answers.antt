@@ -1,6 +1,5 @@
 -- `superframe_numbers` gives the number that `code` ensures. Assumes nothing.
 use Rattle.planner.specs.AnswersInNumbers.{superframe_numbers_law}
-use borrow.Author.Rules.{rules}
 use Rattle.planner.proofs.superframes.superframe_numbers.Goals as goal
 
 pub returns : goal.returns

@@ -2,7 +2,6 @@
 use mathlib.Core.Path.{refl}
 use Rattle.document.specs.ForC.{superframe_after, superframe_of_reading}
 use Rattle.laws.specs.Codes.{accepts, refuses}
-use borrow.Author.Rules.{rules}
 use Rattle.planner.proofs.superframes.superframe_of_reading.Goals as goal
 
 pub returns-then-refuses : goal.returns-then-refuses

@@ -5,7 +5,6 @@ use Prim.Native.Nat.{ℕ, ◌+◌}
 use native.Mathlib.Omega.{arith}
 use lib.ListN.{get_or, take, drop}
 use Rattle.planner.specs.TableRows.{in_row_2, in_row_3, in_row_4, row_stored}
-use borrow.Author.Rules.{rules}
 use Rattle.planner.proofs.tables.put_row.Goals as goal
 
 pub bounds-table-at-2 : goal.bounds-table-at-2

@@ -1,14 +1,13 @@
-use mathlib.Core.Path.{◌≡◌, refl, ap, ◌∙◌}
+use mathlib.Core.Path.{refl, ap, ◌∙◌}
 use mathlib.Core.List.{◌++◌}
-use Prim.Native.Nat.{◌+◌, ◌-◌, ◌*◌}
+use Prim.Native.Nat.{◌+◌, ◌*◌}
 use native.Mathlib.Omega.{arith}
-use lib.ListN.{length, take, drop}
+use lib.ListN.{take, drop}
 use Rattle.model.specs.declared.answers.Bounds.{Bounds}
 use Rattle.model.specs.Sets.{used}
 use Rattle.document.specs.ForC.{bounds_row, bounds_rows}
 use Rattle.planner.specs.TableRows.{rows_more_law}
-use Rattle.laws.specs.Loops.{SoFar, begins, goes_on, ends}
-use borrow.Author.Rules.{rules}
+use Rattle.laws.specs.Loops.{begins, goes_on, ends}
 use Rattle.planner.proofs.tables.put_rows.Goals as goal
 
 pub loop-k-init : goal.loop-k-init

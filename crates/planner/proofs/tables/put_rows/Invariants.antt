@@ -1,15 +1,11 @@
 -- `put_rows` puts one flow's row more each time round; what stands beyond the rows is as it was. Assumes nothing.
-use mathlib.Core.Path.{◌≡◌, refl, ap, ◌∙◌}
+use mathlib.Core.Path.{◌≡◌}
 use mathlib.Core.List.{◌++◌}
-use Prim.Native.Nat.{◌+◌, ◌-◌, ◌*◌}
-use native.Mathlib.Omega.{arith}
-use lib.ListN.{length, take, drop}
-use Rattle.model.specs.declared.answers.Bounds.{Bounds}
+use Prim.Native.Nat.{◌-◌, ◌*◌}
+use lib.ListN.{length, drop}
 use Rattle.model.specs.Sets.{used}
-use Rattle.document.specs.ForC.{bounds_row, bounds_rows}
-use Rattle.planner.specs.TableRows.{rows_more_law}
-use Rattle.laws.specs.Loops.{SoFar, begins, goes_on, ends}
-use borrow.Author.Rules.{rules}
+use Rattle.document.specs.ForC.{bounds_rows}
+use Rattle.laws.specs.Loops.{SoFar}
 use Rattle.planner.proofs.tables.put_rows.Given as goal
 
 abbrev pub invariant-loop-k : goal.invariant-loop-k

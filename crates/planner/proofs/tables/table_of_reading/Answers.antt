@@ -6,7 +6,6 @@ use Rattle.document.specs.Reader.{refused_writing}
 use Rattle.laws.specs.Codes.{accepts, refuses}
 use Rattle.planner.specs.StepWritten.{written}
 use Rattle.planner.specs.TableRows.{table_refused, table_no_room, table_written}
-use borrow.Author.Rules.{rules}
 use Rattle.planner.proofs.tables.table_of_reading.Goals as goal
 
 pub returns-then-refuses : goal.returns-then-refuses

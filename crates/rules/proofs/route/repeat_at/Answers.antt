@@ -1,14 +1,14 @@
 use mathlib.Core.Path.{◌≡◌, sym, ap, ◌∙◌}
 use mathlib.Core.Logic.{◌≢◌}
 use mathlib.Core.List.{List}
-use Prim.Native.Nat.{ℕ, ◌+◌, ◌-◌, ◌≤◌, ◌<◌, min}
+use Prim.Native.Nat.{ℕ, ◌+◌, ◌-◌, ◌≤◌, ◌<◌}
 use native.Mathlib.Decide.{dec_le}
 use native.Mathlib.Omega.{arith}
 use borrow.Author.Rules.{rules}
 use lib.ListN.{length, get_or, take}
 use Rattle.model.specs.Limits.{most_nodes}
 use Rattle.document.specs.Reader.{repeat_at}
-use Rattle.laws.specs.Neighbours.{Differ, FirstRepeat, repeat_found, repeat_passed}
+use Rattle.laws.specs.Neighbours.{repeat_found, repeat_passed}
 use Rattle.laws.specs.Taken.{take_min}
 use Rattle.rules.proofs.route.repeat_at.Invariants.{Passed}
 use Rattle.rules.proofs.route.repeat_at.Goals as goal

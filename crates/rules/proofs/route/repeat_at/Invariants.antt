@@ -1,16 +1,10 @@
 -- `repeat_at` passes the nodes in order: those passed differ from the ones just before them. Assumes nothing.
-use mathlib.Core.Path.{◌≡◌, sym, ap, ◌∙◌}
-use mathlib.Core.Logic.{◌≢◌}
+use mathlib.Core.Path.{◌≡◌}
 use mathlib.Core.List.{List}
-use Prim.Native.Nat.{ℕ, ◌+◌, ◌-◌, ◌≤◌, ◌<◌, min}
-use native.Mathlib.Decide.{dec_le}
-use native.Mathlib.Omega.{arith}
-use borrow.Author.Rules.{rules}
-use lib.ListN.{length, get_or, take}
+use Prim.Native.Nat.{ℕ, ◌-◌, ◌≤◌, min}
+use lib.ListN.{length}
 use Rattle.model.specs.Limits.{most_nodes}
-use Rattle.document.specs.Reader.{repeat_at}
-use Rattle.laws.specs.Neighbours.{Differ, FirstRepeat, repeat_found, repeat_passed}
-use Rattle.laws.specs.Taken.{take_min}
+use Rattle.laws.specs.Neighbours.{Differ}
 use Rattle.rules.proofs.route.repeat_at.Given as goal
 
 -- the pass that has come to place i of the first `end` nodes
