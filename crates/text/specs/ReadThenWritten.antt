@@ -105,14 +105,14 @@ flow_passed t l ls h = go (good (flow_line_fault t.count l)) refl
     go true e = refl
     go false e = sym e ∙ subst (λ (r : Reading). good r.fault.refusal ≡ true) (read_bad t l ls e) h
 
-first_passed : (l : List ℕ) (ls : List (List ℕ)) → good (read_lines (l ∷ ls)).fault.refusal ≡ true → good (first_line_fault l) ≡ true
+pub first_passed : (l : List ℕ) (ls : List (List ℕ)) → good (read_lines (l ∷ ls)).fault.refusal ≡ true → good (first_line_fault l) ≡ true
 first_passed l ls h = go (good (first_line_fault l)) refl
   where
     go : (b : Bool) → good (first_line_fault l) ≡ b → b ≡ true
     go true e = refl
     go false e = sym e ∙ subst (λ (r : Reading). good r.fault.refusal ≡ true) (first_bad_law l ls e) h
 
-one_number : (l : List ℕ) → good (first_line_fault l) ≡ true → numbers_of l ≡ slice_index (numbers_of l) 0 ∷ []
+pub one_number : (l : List ℕ) → good (first_line_fault l) ≡ true → numbers_of l ≡ slice_index (numbers_of l) 0 ∷ []
 unfolding first_line_fault
 one_number l h =
     let p = (formed_first (well_formed set_word l && length (numbers_of l) == 1) _ h).0 in
@@ -177,12 +177,12 @@ small_head : (v : ℕ) (vs : List ℕ) → small (v ∷ vs) ≡ true → (length
 unfolding small
 small_head v vs h = (decimal_five v (leb-true v 65535 (and_l (nat_le v 65535) (small vs) h)), and_r (nat_le v 65535) (small vs) h)
 
-fields_size : (vs : List ℕ) → small vs ≡ true → length (fields_of vs) ≤ 6 * length vs
+pub fields_size : (vs : List ℕ) → small vs ≡ true → length (fields_of vs) ≤ 6 * length vs
 unfolding fields_of
 fields_size [] h = zero-le
 fields_size (v ∷ vs) h = let a = small_head v vs h in omega (arith, field_size v vs, fields_size vs a.1)
 
-line_length_law : (w vs : List ℕ) → length (line_of w vs) ≡ length w + length (fields_of vs) + 1
+pub line_length_law : (w vs : List ℕ) → length (line_of w vs) ≡ length w + length (fields_of vs) + 1
 line_length_law w vs = ap length (sym (line_parts w vs)) ∙ length-append (w ++ fields_of vs) (10 ∷ []) ∙ rw (length-append w (fields_of vs))
 
 flow_size : (vs : List ℕ) → small vs ≡ true → 4 ≤ length vs → length vs ≤ 4 + most_nodes → slice_index vs 3 < 10 → length (fields_of vs) ≤ 122
@@ -206,7 +206,7 @@ flow_size (a ∷ b ∷ c ∷ d ∷ r) s h k t =
     )
 
 -- a flow's line has at most 127 bytes, and there are at most 64
-flows_length : (ls : List (List ℕ)) (t : FlowSet) → each_line ls → t.count ≤ most_flows → good (read_flows t ls).fault.refusal ≡ true
+pub flows_length : (ls : List (List ℕ)) (t : FlowSet) → each_line ls → t.count ≤ most_flows → good (read_flows t ls).fault.refusal ≡ true
     → length (joined ls) + 127 * t.count ≤ 127 * most_flows
 unfolding joined each_line with_flow
 flows_length [] t e r h = omega arith
@@ -228,24 +228,3 @@ flows_length (l ∷ ls) t e r h =
 -- the set's line and 64 flows' lines, each as long as it can be: 10 + 64 · 127
 abbrev pub longest_text : ℕ
 longest_text = 8138
-
-lines_length_law : (ls : List (List ℕ)) → each_line ls → good (read_lines ls).fault.refusal ≡ true → length (joined ls) ≤ longest_text
-unfolding joined each_line read_lines set_of
-lines_length_law [] e h = absurd (false≢true h)
-lines_length_law (l ∷ ls) e h =
-    let p = first_passed l ls h in
-    let q = first_good l ls p in
-    let f = first_formed l p in
-    omega (
-      arith,
-      length-append l (joined ls),
-      ap length (sym e.0 ∙ line_back set_word l f),
-      line_length_law set_word (numbers_of l),
-      ap length (one_number l p),
-      fields_size (numbers_of l) (line_small set_word l f),
-      flows_length ls (set_of l) e.1 zero-le (subst (λ (x : Reading). good x.fault.refusal ≡ true) q h),
-    )
-
-pub read_length : (s : List ℕ) → good (read_text s).fault.refusal ≡ true → length s ≤ longest_text
-unfolding read_text
-read_length s h = omega (arith, lines_length_law (lines s) (lines_each s) h, ap length (lines_joined s))

@@ -1,5 +1,5 @@
 // The writer: the record check first, then the buffer's room, then the text and nothing else. What holds of a set's text that is read and
-// written stands in specs/RoundTrip.antt.
+// written stands in specs/RoundTrip.antt and proofs/RoundTrip.antt.
 ghost use Rattle.std.specs.Prelude.{◌≡◌, ◌+◌, ◌-◌, ◌≤◌, min, true, length, nat_le};
 ghost use Rattle.document.specs.Reader.{ReadAgain, flow_lines, flow_numbers, record_fault, text_of, write_answer, write_into};
 ghost use Rattle.model.specs.Refusals.{good};

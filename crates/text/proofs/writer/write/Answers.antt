@@ -5,7 +5,8 @@ use Rattle.model.specs.declared.answers.Fault.{Fault}
 use Rattle.model.specs.Refusals.{good}
 use borrow.Author.Tests.{not-true, not-false}
 use Rattle.text.specs.HeldByCode.{set_held}
-use Rattle.text.specs.RoundTrip.{read_again, text_most}
+use Rattle.text.specs.RoundTrip.{read_again}
+use Rattle.text.proofs.RoundTrip.{text_most}
 use Rattle.text.specs.WriteAnswers.{write_refused, write_accepted}
 use Rattle.text.proofs.writer.write.Goals as goal
 

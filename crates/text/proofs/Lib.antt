@@ -1,0 +1,2 @@
+pub mod ReadThenWritten
+pub mod RoundTrip
