@@ -5,6 +5,7 @@ import importlib.util
 import os
 import subprocess
 import sys
+import tempfile
 
 sys.dont_write_bytecode = True
 # the repository's top
@@ -45,4 +46,15 @@ def is_proved(crate):
 
 def build_below(crate):
     """Builds the libraries below, unless `rt ci` has built all of them; returns whether they are there."""
-    return all(is_proved(it) for it in crate.below()) or not any(it.build_rlib(["--jobs", str(min(lanes, 2))], anew=False) for it in crate.below())
+    if all(is_proved(it) for it in crate.below()):
+        return True
+    with tempfile.TemporaryFile("w+", errors="replace") as out:
+        for it in crate.below():
+            it.out = out
+            failed = it.build_rlib(["--jobs", str(min(lanes, 2))], anew=False)
+            it.out = sys.stdout
+            if failed:
+                out.seek(0)
+                print(f"{out.read()}\n{it.name} is not proved", flush=True)
+                return False
+    return True
