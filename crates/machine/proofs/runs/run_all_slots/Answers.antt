@@ -1,12 +1,21 @@
-use mathlib.Core.Path.{refl, ◌∙◌}
+use mathlib.Core.Path.{◌≡◌, refl, ◌∙◌}
 use Prim.Native.Nat.{◌≤◌, zero-le}
 use native.Mathlib.Omega.{arith}
-use lib.ListN.{length}
+use lib.ListN.{length, take}
+use Rattle.std.proofs.lemmas.List.Edits.{sets}
+use Rattle.document.specs.Superframe.{flat}
 use Rattle.laws.specs.Loops.{begins, goes_on, ends}
 use Rattle.machine.specs.RunSoFar.{counts_of}
-use Rattle.machine.specs.RowsPut.{all_put, no_rows, rows_fit, rows_if_put, rows_more_law}
+use Rattle.machine.specs.RowsPut.{rows_by, all_put, no_rows, rows_fit, rows_if_put, rows_more_law}
 use borrow.Author.Rules.{rules}
 use Rattle.machine.proofs.runs.run_all_slots.Goals as goal
+use Rattle.machine.proofs.runs.run_all_slots.Goals.{After-put_rows-at}
+
+-- the rows put are those of slot t
+rows_on : (c : After-put_rows-at)
+    → c.put_rows-at.new.table
+    ≡ sets c.loop-t.table c.loop-t.at (flat (rows_by c.loop-t.t c.run_slot-got.new.sent 0 (take c.rows_of-rows.result c.run_slot-got.new.chosen)))
+rows_on c = c.put_rows-at.ensures.rows
 
 pub loop-t-init : goal.loop-t-init
 loop-t-init c =
@@ -54,7 +63,7 @@ loop-t-preserved c =
       (λ s fault u. (e s fault (counts_of v.delivered v.dropped) (h.1 s fault u)).0),
       (λ y s fault b.
           let u = h.1 s fault b in
-          rows_more_law _ s fault _ _ _ _ u.ran _ _ _ (e s fault _ u).1 _ _ _ (h.2 y s fault b) _ _ _ (all_put c.args.put _ _ c.rows_of-rows.ensures y) o.place o.rows),
+          rows_more_law _ s fault _ _ _ _ u.ran _ _ _ (e s fault _ u).1 _ _ _ (h.2 y s fault b) _ _ _ (all_put c.args.put _ _ c.rows_of-rows.ensures y) o.place (rows_on c.before.before.before)),
       (let d : c.run_slot-got.result.delivered ≤ 4294967295 = search rules in omega (arith, h.3, d)),
       (let d : c.run_slot-got.result.dropped ≤ 4294967295 = search rules in omega (arith, h.4, d)),
       n.1.long,
