@@ -21,3 +21,4 @@ pub mod FieldFits
 pub mod NamedFields
 pub mod FlatRows
 pub mod HyperPeriod
+pub mod Judged

@@ -1,9 +1,8 @@
 -- Document 01, "Refusal numbers", and those of request 2: 14 to 16.
 use mathlib.Core.{Bool.{Bool, false, cond}, List.{List, [], ◌∷◌}}
-use Rattle.std.specs.Prelude.{ℕ}
+use Rattle.std.specs.Prelude.{ℕ, Option, Some, None, Result, Ok, Err}
 use lib.{Dec.{eqb}, IntN.{pos}}
-use Rattle.model.specs.declared.answers.{Bounds.{Bounds}, Fault.{Fault}, FixedBounds.{FixedBounds}, FixedVerdict.{FixedVerdict}, NumberRead.{NumberRead}, Refusal.{Refusal}, Tabled.{Tabled}, Verdict.{Verdict}}
-use Rattle.model.specs.declared.answers.NumberRead.TheVariants.{Value, Refused}
+use Rattle.model.specs.declared.answers.{Bounds.{Bounds}, Fault.{Fault}, FixedBounds.{FixedBounds}, FixedVerdict.{FixedVerdict}, Refusal.{Refusal}, Tabled.{Tabled}, Verdict.{Verdict}}
 use Rattle.model.specs.declared.answers.Refusal.TheVariants.{Nothing, BadForm, NoChannel, TooManyFlows, BadPeriod, BadDeadline, BadTries, BadRoute, EqualNeighbours, TooMuchWork, NoRoom, AtLastSlot, BadState, NoSuchFlow, NotAdmitted, LateStart, LongHyperPeriod}
 
 -- the number of each case; 0 where nothing is refused
@@ -27,9 +26,9 @@ refusal_number LateStart = 15
 refusal_number LongHyperPeriod = 16
 
 -- the number and the values of each case of a number's reading: the value and the place after it, or refusal 1 and none
-abbrev pub number_says : NumberRead → ℕ × List ℕ
-number_says (Value v next) = (refusal_number Nothing, v ∷ next ∷ [])
-number_says Refused = (refusal_number BadForm, [])
+abbrev pub number_says : Option (ℕ × ℕ) → ℕ × List ℕ
+number_says (Some (v, next)) = (refusal_number Nothing, v ∷ next ∷ [])
+number_says None = (refusal_number BadForm, [])
 
 -- nothing is refused
 abbrev pub good : Refusal → Bool
@@ -49,6 +48,14 @@ no_fault = fault_at Nothing 0
 -- the refusal, if it is one, before what comes later
 abbrev pub or_else : Fault → Fault → Fault
 or_else f g = cond (good f.refusal) g f
+
+-- a refusal as an error; nothing is refused where all is well
+abbrev pub judged : Refusal → Result Unit Refusal
+judged r = cond (good r) (Ok tt) (Err r)
+
+-- the same of a refusal with its line
+abbrev pub checked : Fault → Result Unit Fault
+checked f = cond (good f.refusal) (Ok tt) (Err f)
 
 -- a refused bound or verdict gives zeros and "no"
 abbrev pub refused_verdict : Fault → Verdict

@@ -1,64 +1,40 @@
 // The answers that the planner's functions give.
-ghost use Rattle.std.specs.Prelude.{not, ◌≡◌, ◌≤◌};
-ghost use Rattle.model.specs.Refusals.{refusal_number, good, fault_at, no_fault, or_else, refused_verdict, refused_bounds, refused_fixed_verdict, refused_fixed_bounds, refused_table};
+ghost use Rattle.std.specs.Prelude.{true, false, not, ◌≡◌, ◌≤◌};
+ghost use Rattle.model.specs.Refusals.{refusal_number, good, checked, fault_at, no_fault, or_else, refused_verdict, refused_bounds, refused_fixed_verdict, refused_fixed_bounds, refused_table};
 ghost use Rattle.model.specs.Sums.{bit};
 
 use crate::kinds::{ChannelMap, Flow, FlowSet, Slot, Span, State};
 
-// Why a set, a text, a state or a request is refused.
-#[derive(Clone, Copy)]
+// Why a set, a text, a state or a request is refused, with document 01's number for it. What can be refused gives a `Result` with one of these.
+// Kept: `Nothing` is a case, and no `Option`, since the definitions `refusal_number`, `good` and `no_fault` and the answers below are of it.
+#[derive(Clone, Copy, PartialEq, Eq)]
 pub enum Refusal {
-    Nothing,
-    BadForm,
-    NoChannel,
-    TooManyFlows,
-    BadPeriod,
-    BadDeadline,
-    BadTries,
-    BadRoute,
-    EqualNeighbours,
-    TooMuchWork,
-    NoRoom,
-    AtLastSlot,
-    BadState,
-    NoSuchFlow,
-    NotAdmitted,
-    LateStart,
-    LongHyperPeriod,
+    Nothing = 0,
+    BadForm = 1,
+    NoChannel = 2,
+    TooManyFlows = 3,
+    BadPeriod = 4,
+    BadDeadline = 5,
+    BadTries = 6,
+    BadRoute = 7,
+    EqualNeighbours = 8,
+    TooMuchWork = 9,
+    NoRoom = 10,
+    AtLastSlot = 11,
+    BadState = 12,
+    NoSuchFlow = 13,
+    NotAdmitted = 14,
+    LateStart = 15,
+    LongHyperPeriod = 16,
 }
 
 impl Refusal {
-    // Document 01's number for it; 0 where nothing is refused.
+    // Document 01's number for it; 0 where nothing is refused. Kept: a name for `as`, since a contract says what it gives.
     pub fn code(self) -> u16
         ensures { result ≡ refusal_number self }
     {
-        match self {
-            Refusal::Nothing => 0,
-            Refusal::BadForm => 1,
-            Refusal::NoChannel => 2,
-            Refusal::TooManyFlows => 3,
-            Refusal::BadPeriod => 4,
-            Refusal::BadDeadline => 5,
-            Refusal::BadTries => 6,
-            Refusal::BadRoute => 7,
-            Refusal::EqualNeighbours => 8,
-            Refusal::TooMuchWork => 9,
-            Refusal::NoRoom => 10,
-            Refusal::AtLastSlot => 11,
-            Refusal::BadState => 12,
-            Refusal::NoSuchFlow => 13,
-            Refusal::NotAdmitted => 14,
-            Refusal::LateStart => 15,
-            Refusal::LongHyperPeriod => 16,
-        }
+        self as u16
     }
-}
-
-// A number's reading ends either in its value, with the place after it, or in a refusal.
-#[derive(Clone, Copy)]
-pub enum NumberRead {
-    Value(u16, usize),
-    Refused,
 }
 
 // A refusal with the line it names and that line's field, 0 where it names none. A table can have more lines than 32 bits count, and a line
@@ -82,7 +58,7 @@ impl Fault {
         }
     }
 
-    // A refusal that names no line.
+    // A refusal that names no line. Kept: no `From`, since the name is to say that a line is left out.
     pub fn of(refusal: Refusal) -> Fault
         ensures { result ≡ fault_at refusal 0 }
     {
@@ -104,16 +80,52 @@ impl Fault {
     pub fn refuses(self) -> bool
         ensures { result ≡ not (good self.refusal) }
     {
-        let refusal = self.refusal;
-        refusal.code() != 0
+        self.refusal != Refusal::Nothing
+    }
+
+    // This fault as an error, if it refuses something, so that `?` hands it on.
+    pub fn check(self) -> Result<(), Fault>
+        ensures { result ≡ checked self }
+    {
+        if self.refuses() { Err(self) } else { Ok(()) }
     }
 }
+
+// An answer that can be a refusal.
+pub trait Refusable {
+    ghost use Rattle.model.specs.declared.answers.Fault.{Fault};
+
+    // What is answered where a fault refuses it.
+    ghost refused_by: { Fault → Self };
+
+    // A refusal, and nothing else.
+    fn refused(fault: Fault) -> Self
+        ensures { result ≡ refused_by fault };
+}
+
+// Kept: the answers below have their fault beside their values, since they are the values of the definitions `read_text`, `verdict_of`, `bounds_of`,
+// `step_of`, `run_of` and so on, zeros beside a refusal included, and C is answered the same. A slot's
+// lists have their counts beside them: there is no heap, and the definition `filled` puts blanks behind the last.
 
 // The reader's answer: the set, or the fault and the blank set.
 #[derive(Clone, Copy)]
 pub struct Reading {
     pub fault: Fault,
     pub set: FlowSet,
+}
+
+impl Reading {
+    // What a function of the set answers, or the reader's refusal.
+    pub fn answer<A: Refusable, F: FnOnce(FlowSet) -> A>(self, of: F) -> A
+        requires { F.pre of self.set }
+        ensures refused { good self.fault.refusal ≡ false → result ≡ A.refused_by self.fault }
+        ensures answered { good self.fault.refusal ≡ true → F.post of self.set result }
+    {
+        match self.fault.check() {
+            Ok(()) => of(self.set),
+            Err(fault) => A::refused(fault),
+        }
+    }
 }
 
 // The writer's answer: how many bytes stand in the lent buffer.
@@ -123,11 +135,11 @@ pub struct Written {
     pub length: usize,
 }
 
-impl Written {
+impl Refusable for Written {
+    ghost refused_by = { λ f. record { fault = f; length = 0 } };
+
     // A refusal, nothing written.
-    pub fn refused(fault: Fault) -> Written
-        ensures { result ≡ record { fault = fault; length = 0 } }
-    {
+    fn refused(fault: Fault) -> Written {
         Written { fault, length: 0 }
     }
 }
@@ -140,11 +152,11 @@ pub struct Verdict {
     pub rounds: u32,
 }
 
-impl Verdict {
+impl Refusable for Verdict {
+    ghost refused_by = { refused_verdict };
+
     // A refusal, neither test passed, no rounds.
-    pub fn refused(fault: Fault) -> Verdict
-        ensures { result ≡ refused_verdict fault }
-    {
+    fn refused(fault: Fault) -> Verdict {
         Verdict {
             fault,
             basic: false,
@@ -165,11 +177,11 @@ pub struct Bounds {
     pub margin: i32,
 }
 
-impl Bounds {
+impl Refusable for Bounds {
+    ghost refused_by = { refused_bounds };
+
     // A refusal, every number 0.
-    pub fn refused(fault: Fault) -> Bounds
-        ensures { result ≡ refused_bounds fault }
-    {
+    fn refused(fault: Fault) -> Bounds {
         Bounds {
             fault,
             work: 0,
@@ -189,11 +201,11 @@ pub struct FixedVerdict {
     pub judged: u32,
 }
 
-impl FixedVerdict {
+impl Refusable for FixedVerdict {
+    ghost refused_by = { refused_fixed_verdict };
+
     // A refusal, not admitted, no flow judged.
-    pub fn refused(fault: Fault) -> FixedVerdict
-        ensures { result ≡ refused_fixed_verdict fault }
-    {
+    fn refused(fault: Fault) -> FixedVerdict {
         FixedVerdict {
             fault,
             admitted: false,
@@ -212,11 +224,11 @@ pub struct FixedBounds {
     pub judged: bool,
 }
 
-impl FixedBounds {
+impl Refusable for FixedBounds {
+    ghost refused_by = { refused_fixed_bounds };
+
     // A refusal, every number 0, not judged.
-    pub fn refused(fault: Fault) -> FixedBounds
-        ensures { result ≡ refused_fixed_bounds fault }
-    {
+    fn refused(fault: Fault) -> FixedBounds {
         FixedBounds {
             fault,
             work: 0,
@@ -241,11 +253,13 @@ impl Tabled {
 
     // How many numbers a row has: slot, flow, transmission number, offset.
     pub const ROW: usize = 4;
+}
+
+impl Refusable for Tabled {
+    ghost refused_by = { refused_table };
 
     // A refusal, nothing written.
-    pub fn refused(fault: Fault) -> Tabled
-        ensures { result ≡ refused_table fault }
-    {
+    fn refused(fault: Fault) -> Tabled {
         Tabled {
             fault,
             hyper: 0,
@@ -296,7 +310,7 @@ pub struct Ran {
     pub dropped: u64,
 }
 
-// What C is answered: document 01's number for the refusal, and a test as 1 or 0.
+// What C is answered: document 01's number for the refusal, and a test as 1 or 0. Kept as numbers: the C interface.
 
 #[repr(C)]
 #[derive(Clone, Copy)]
@@ -392,9 +406,10 @@ pub struct RowsAnswer {
     pub numbers: usize,
 }
 
-// A test as a number, 1 where it passes.
+// A test as a number, 1 where it passes, as texts and C have it. Kept: a name for `u32::from`, a public function that
+// docs/CONTRACTS.md names.
 pub fn bit(test: bool) -> u32
     ensures { (result ≡ bit test) × (result ≤ 1) }
 {
-    if test { 1 } else { 0 }
+    u32::from(test)
 }

@@ -7,12 +7,12 @@ ghost use Rattle.model.specs.Limits.{limits_of};
 
 // An absolute slot number: slots of 10 ms, counted from the machine's first.
 #[repr(C)]
-#[derive(Clone, Copy)]
+#[derive(Clone, Copy, PartialEq, Eq, PartialOrd, Ord)]
 pub struct Slot(pub u32);
 
 // A count of slots: a period, a relative deadline, a delay.
 #[repr(C)]
-#[derive(Clone, Copy)]
+#[derive(Clone, Copy, PartialEq, Eq, PartialOrd, Ord)]
 pub struct Span(pub u16);
 
 impl Slot {
@@ -20,54 +20,32 @@ impl Slot {
     pub fn after(self, count: Span) -> Slot
         ensures { result.0 ≡ min (self.0 + count.0) 4294967295 }
     {
-        let room = 4294967295 - self.0;
-        let n = count.0 as u32;
-        if n <= room {
-            Slot(self.0 + n)
-        } else {
-            Slot(4294967295)
-        }
+        Slot(self.0.saturating_add(u32::from(count.0)))
     }
 
     // The slot that comes this count of slots earlier; the first one, 0, where there is none.
     pub fn back(self, count: Span) -> Slot
         ensures { result.0 ≡ self.0 - count.0 }
     {
-        let n = count.0 as u32;
-        if n <= self.0 {
-            Slot(self.0 - n)
-        } else {
-            Slot(0)
-        }
+        Slot(self.0.saturating_sub(u32::from(count.0)))
     }
 
     // The latest of the slots first, first + period, first + 2 · period, .. that is not after this one; the first where all are.
     pub fn release(self, first: Slot, period: Span) -> Slot
         ensures { result.0 ≡ first.0 + (self.0 - first.0) / period.0 * period.0 }
     {
-        if self.0 <= first.0 {
+        if self <= first || period == Span(0) {
             return first;
         }
-        let n = period.0 as u32;
-        if n == 0 {
-            return first;
-        }
-        Slot(self.0 - (self.0 - first.0) % n)
+        Slot(self.0 - (self.0 - first.0) % u32::from(period.0))
     }
 
     // How many slots after an earlier one this is; 0 where it is not after it, and never above 65,535.
     pub fn since(self, earlier: Slot) -> Span
         ensures { result.0 ≡ min (self.0 - earlier.0) 65535 }
     {
-        if self.0 <= earlier.0 {
-            return Span(0);
-        }
-        let n = self.0 - earlier.0;
-        if n <= 65535 {
-            Span(n as u16)
-        } else {
-            Span(65535)
-        }
+        let n = self.0.saturating_sub(earlier.0);
+        Span(u16::try_from(n).unwrap_or(u16::MAX))
     }
 }
 
@@ -83,7 +61,7 @@ impl Span {
     pub fn keeps(self, bound: u32) -> bool
         ensures { result ≡ leb bound self.0 }
     {
-        bound <= self.0 as u32
+        bound <= u32::from(self.0)
     }
 }
 
@@ -107,7 +85,7 @@ impl ChannelMap {
     pub fn ways(self) -> u32
         ensures { result ≡ ones self.0 }
     {
-        u16::count_ones(self.0)
+        self.0.count_ones()
     }
 }
 
@@ -130,7 +108,8 @@ impl Flow {
 
     pub const MOST_NODES: usize = Flow::MOST_LINKS + 1;
 
-    // No route, and every number 0.
+    // No route, and every number 0. Kept: no `Default`, since `Flow::blank`, `FlowSet::blank` and `State::fresh` are
+    // public functions that docs/CONTRACTS.md names, in the definitions' words.
     pub fn blank() -> Flow
         ensures { result ≡ blank_flow }
     {
@@ -148,27 +127,25 @@ impl Flow {
     pub fn links(self) -> u32
         ensures { (result ≡ links self) × (result ≤ 65534) }
     {
-        if self.nodes == 0 {
-            return 0;
-        }
-        (self.nodes - 1) as u32
+        u32::from(self.nodes.saturating_sub(1))
     }
 
     // C: a packet's transmissions.
     pub fn work(self) -> u32
         ensures { result ≡ work self }
     {
-        self.links() * (self.tries as u32)
+        self.links() * u32::from(self.tries)
     }
 
     // The start, a 16-bit number of the record, as the absolute slot of the first release.
     pub fn first_release(self) -> Slot
         ensures { (result.0 ≡ self.start) × (result.0 ≤ 65535) }
     {
-        Slot(self.start as u32)
+        Slot(u32::from(self.start))
     }
 }
 
+// Kept: an array with its count beside it, as in `Flow`, since these are document 01's records with C's layout, and there is no heap for a `Vec`.
 #[repr(C)]
 #[derive(Clone, Copy)]
 pub struct FlowSet {
@@ -212,7 +189,7 @@ impl State {
 }
 
 // The orders in which rule 4 takes ready packets: earlier absolute deadline and then lower flow number, or lower flow number alone.
-#[derive(Clone, Copy)]
+#[derive(Clone, Copy, PartialEq, Eq)]
 pub enum Order {
     Deadline,
     Number,

@@ -7,7 +7,7 @@ mod kinds;
 
 pub use answers::{
     Bounds, BoundsAnswer, Delivery, Fault, FixedBounds, FixedBoundsAnswer, FixedVerdict,
-    FixedVerdictAnswer, LinesAnswer, NumberRead, Ran, Reading, Refusal, RowsAnswer, Send,
+    FixedVerdictAnswer, LinesAnswer, Ran, Reading, Refusable, Refusal, RowsAnswer, Send,
     SlotAnswer, Stepped, SuperframeAnswer, TableAnswer, Tabled, Verdict, VerdictAnswer, Written,
     bit,
 };

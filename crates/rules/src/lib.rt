@@ -5,6 +5,7 @@
 ghost use Rattle.std.specs.Prelude.{◌≡◌, ◌||◌, ltb, take};
 ghost use Rattle.rules.specs.Rules.{route_fault};
 ghost use Rattle.document.specs.Reader.{flow_fault, flows_fault, map_fault, record_fault, record_flow_fault};
+ghost use Rattle.model.specs.Refusals.{checked, judged};
 ghost use Rattle.model.specs.Sets.{exact, used};
 
 mod route;
@@ -16,40 +17,42 @@ pub use route::repeat_at;
 fn outside(value: usize, least: usize, most: usize) -> bool
     ensures { result ≡ (ltb value least || ltb most value) }
 {
-    if value < least {
-        return true;
-    }
-    most < value
+    value < least || most < value
 }
 
 // Rules 7 to 9. Nodes of the route beyond the array are never looked at.
-fn route_fault(deadline: u16, tries: u16, nodes: usize, route: [u16; Flow::MOST_NODES]) -> Refusal
-    ensures { result ≡ route_fault deadline tries nodes (take nodes route) }
+fn route_fault(
+    deadline: u16,
+    tries: u16,
+    nodes: usize,
+    route: [u16; Flow::MOST_NODES],
+) -> Result<(), Refusal>
+    ensures { result ≡ judged (route_fault deadline tries nodes (take nodes route)) }
 {
     if outside(nodes, 2, Flow::MOST_NODES) {
-        return Refusal::BadRoute;
+        return Err(Refusal::BadRoute);
     }
     if repeat_at(route, nodes) < nodes {
-        return Refusal::EqualNeighbours;
+        return Err(Refusal::EqualNeighbours);
     }
     let work = (nodes - 1) * (tries as usize);
     if (deadline as usize) < work {
-        return Refusal::TooMuchWork;
+        return Err(Refusal::TooMuchWork);
     }
-    Refusal::Nothing
+    Ok(())
 }
 
 // Rule 2.
-pub fn map_fault(bits: u16) -> Refusal
-    ensures { result ≡ map_fault bits }
+pub fn map_fault(bits: u16) -> Result<(), Refusal>
+    ensures { result ≡ judged (map_fault bits) }
 {
     if bits == 0 {
-        return Refusal::NoChannel;
+        return Err(Refusal::NoChannel);
     }
-    Refusal::Nothing
+    Ok(())
 }
 
-// Rules 3 to 9 of the flow that is number k.
+// Rules 3 to 9 of the flow that is number k. Kept: numbers and no `Flow`, since a line's nodes are counted as wide as a length and a flow's in 16 bits.
 pub fn flow_fault(
     k: usize,
     period: u16,
@@ -57,81 +60,72 @@ pub fn flow_fault(
     tries: u16,
     nodes: usize,
     route: [u16; Flow::MOST_NODES],
-) -> Refusal
-    ensures { result ≡ flow_fault k period deadline tries nodes (take nodes route) }
+) -> Result<(), Refusal>
+    ensures { result ≡ judged (flow_fault k period deadline tries nodes (take nodes route)) }
 {
     if Flow::MOST <= k {
-        return Refusal::TooManyFlows;
+        return Err(Refusal::TooManyFlows);
     }
     if period == 0 {
-        return Refusal::BadPeriod;
+        return Err(Refusal::BadPeriod);
     }
     if outside(deadline as usize, 1, period as usize) {
-        return Refusal::BadDeadline;
+        return Err(Refusal::BadDeadline);
     }
     if outside(tries as usize, 1, 4) {
-        return Refusal::BadTries;
+        return Err(Refusal::BadTries);
     }
     route_fault(deadline, tries, nodes, route)
 }
 
 // Rules 3 to 9 of a flow of a record.
-fn record_flow_fault(k: usize, f: Flow) -> Refusal
-    ensures { result ≡ record_flow_fault k (exact f) }
+fn record_flow_fault(k: usize, f: Flow) -> Result<(), Refusal>
+    ensures { result ≡ judged (record_flow_fault k (exact f)) }
 {
-    let route = f.route;
     flow_fault(
         k,
         f.period.0,
         f.deadline.0,
         f.tries,
         f.nodes as usize,
-        route,
+        f.route,
     )
 }
 
 // The first flow's fault with its line; a record has no fields. A flow beyond the array is never looked at: its number alone refuses it.
-fn flows_fault(s: FlowSet) -> Fault
-    ensures { result ≡ flows_fault (used s) 0 s.count }
+fn flows_fault(s: FlowSet) -> Result<(), Fault>
+    ensures { result ≡ checked (flows_fault (used s) 0 s.count) }
 {
-    let n = s.count as usize;
-    let mut k: usize = 0;
-    while k < n {
+    for k in 0..s.count as usize {
         if k >= Flow::MOST {
-            return Fault {
+            return Err(Fault {
                 refusal: Refusal::TooManyFlows,
                 line: k + 2,
                 field: 0,
-            };
+            });
         }
-        let refusal = record_flow_fault(k, s.flows[k]);
-        if refusal.code() != 0 {
-            return Fault {
+        if let Err(refusal) = record_flow_fault(k, s.flows[k]) {
+            return Err(Fault {
                 refusal,
                 line: k + 2,
                 field: 0,
-            };
+            });
         }
-        k += 1;
     }
-    Fault {
-        refusal: Refusal::Nothing,
-        line: 0,
-        field: 0,
-    }
+    Ok(())
 }
 
-// The record check: rules 2 to 9, judged line by line as the set's text would be.
-pub fn record_fault(s: FlowSet) -> Fault
-    ensures { result ≡ record_fault (used s) }
+// The record check: rules 2 to 9, judged line by line as the set's text would be. Kept: that a set passes is a clause of the functions that ask for it,
+// and no type of accepted sets, since `machine::step_accepted`, `machine::rows_accepted` and the theorems take a `FlowSet`: a type would ask more.
+pub fn record_fault(s: FlowSet) -> Result<(), Fault>
+    ensures { result ≡ checked (record_fault (used s)) }
 {
-    let refusal = map_fault(s.map.0);
-    if refusal.code() != 0 {
-        return Fault {
+    if let Err(refusal) = map_fault(s.map.0) {
+        return Err(Fault {
             refusal,
             line: 1,
             field: 0,
-        };
+        });
     }
     flows_fault(s)
 }

@@ -1,38 +1,36 @@
 use mathlib.Core.Path.{◌≡◌, refl, sym, ap, ◌∙◌}
-use Prim.Native.Nat.{◌-◌}
+use Prim.Native.Nat.{◌+◌, ◌-◌}
 use native.Mathlib.Omega.{arith}
-use borrow.Author.Rules.{rules}
+use Rattle.laws.specs.Judged.{err_of, judged_err, judged_ok, ok_of}
 use Rattle.model.specs.declared.answers.Refusal.TheVariants.{TooManyFlows}
+use Rattle.model.specs.Refusals.{fault_at}
 use Rattle.model.specs.Sets.{used}
 use Rattle.document.specs.Reader.{flows_fault}
 use Rattle.rules.specs.RecordFlows.{flows_here, flows_on, flows_end, flow_fault_at, too_many}
 use Rattle.rules.proofs.flows_fault.Goals as goal
 
 pub loop-k-init : goal.loop-k-init
-loop-k-init c =
-    let e : c.args.s.count ≡ c.args.s.count - 0 = omega arith in
-    (search rules, search rules, ap (flows_fault (used c.args.s) 0) e)
+loop-k-init c = let e : c.args.s.count ≡ c.args.s.count - 0 = omega arith in ap (flows_fault (used c.args.s) 0) e
 
 pub returns-then-k-ge-MOST : goal.returns-then-k-ge-MOST
 returns-then-k-ge-MOST c =
     let s = c.args.s in
     let l = c.loop-k in
-    flows_here s l.k (omega arith) TooManyFlows (too_many s l.k (omega arith) c.if-k-ge-MOST.true) (λ e. omega arith) ∙ sym l.invariant.2
+    let e = too_many s l.k (omega arith) c.if-k-ge-MOST.true in
+    err_of (fault_at TooManyFlows (l.k + 2)) _ refl (flows_here s l.k (omega arith) TooManyFlows e refl ∙ sym l.invariant)
 
-pub returns-then-code-ne0 : goal.returns-then-code-ne0
-returns-then-code-ne0 c =
+pub returns-in-Err : goal.returns-in-Err
+returns-in-Err c =
     let s = c.args.s in
-    let k = c.loop-k.k in
-    let e = c.record_flow_fault-refusal.ensures ∙ flow_fault_at s k (omega arith) in
-    flows_here s k (omega arith) _ e (λ z. c.if-code-ne0.true (c.code.ensures ∙ z)) ∙ sym c.loop-k.invariant.2
+    let l = c.loop-k in
+    let w = judged_err _ c.record_flow_fault.ensures c.in-Err.is in
+    let e = w.0 ∙ flow_fault_at s l.k (omega arith) in
+    err_of _ _ w.1 (flows_here s l.k (omega arith) _ e w.1 ∙ sym l.invariant)
 
 pub loop-k-preserved : goal.loop-k-preserved
 loop-k-preserved c =
-    let e = c.record_flow_fault-refusal.ensures in
-    let z = sym c.code.ensures ∙ c.if-code-ne0.false in
-    (search rules, refl, c.loop-k.invariant.2 ∙ flows_on c.args.s c.loop-k.k (omega arith) _ e z)
+    let w = judged_ok _ c.record_flow_fault.ensures c.in_default.is in
+    c.loop-k.invariant ∙ flows_on c.args.s c.loop-k.k (omega arith) w
 
 pub returns : goal.returns
-returns c =
-    let s = c.args.s in
-    let l = c.loop-k in flows_end s l.k (omega arith) ∙ sym l.invariant.2
+returns c = ok_of _ (flows_end c.args.s c.loop-k.k (omega arith) ∙ sym c.loop-k.invariant)

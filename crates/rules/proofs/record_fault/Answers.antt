@@ -1,15 +1,16 @@
 -- `record_fault` is the map's fault and then the flows'. Assumes nothing.
-use mathlib.Core.Path.{sym, ◌∙◌}
+use mathlib.Core.Path.{ap, ◌∙◌}
+use Rattle.laws.specs.Judged.{err_of, judged_err, judged_ok}
+use Rattle.model.specs.Refusals.{checked}
 use Rattle.rules.specs.RecordFlows.{record_first, record_on}
 use Rattle.rules.proofs.record_fault.Goals as goal
 
-pub returns-then-code-ne0 : goal.returns-then-code-ne0
-returns-then-code-ne0 c =
-    record_first c.args.s c.map_fault-refusal.result c.map_fault-refusal.ensures
-    (λ e. c.if-code-ne0.true (c.code.ensures ∙ e))
+pub returns-in-Err : goal.returns-in-Err
+returns-in-Err c =
+    let w = judged_err _ c.map_fault.ensures c.in-Err.is in
+    err_of _ _ w.1 (record_first c.args.s _ w.0 w.1)
 
 pub returns : goal.returns
 returns c =
-    c.flows_fault.ensures
-    ∙ record_on c.args.s c.map_fault-refusal.result c.map_fault-refusal.ensures
-    (sym c.code.ensures ∙ c.if-code-ne0.false)
+    let w = judged_ok _ c.map_fault.ensures c.in_default.is in
+    c.flows_fault.ensures ∙ ap checked (record_on c.args.s w)

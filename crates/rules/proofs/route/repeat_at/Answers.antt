@@ -18,8 +18,8 @@ pub loop-i-init : goal.loop-i-init
 loop-i-init c =
     record {
       long = search rules;
-      ends = c.nodes_in-end.ensures.0;
-      few = c.nodes_in-end.ensures.1;
+      ends = search rules;
+      few = search rules;
       from = omega arith;
       differ = λ j a b. absurd (omega arith);
     }

@@ -1,7 +1,7 @@
 -- `repeat_at` passes the nodes in order: those passed differ from the ones just before them. Assumes nothing.
 use mathlib.Core.Path.{◌≡◌}
 use mathlib.Core.List.{List}
-use Prim.Native.Nat.{ℕ, ◌-◌, ◌≤◌, min}
+use Prim.Native.Nat.{ℕ, ◌≤◌, min}
 use lib.ListN.{length}
 use Rattle.model.specs.Limits.{most_nodes}
 use Rattle.laws.specs.Neighbours.{Differ}
@@ -17,6 +17,3 @@ pub record Passed (n : ℕ) (route : List ℕ) (end i : ℕ) : Type 0 where
 
 abbrev pub invariant-loop-i : goal.invariant-loop-i
 invariant-loop-i l = Passed l.n l.route l.end l.i
-
-abbrev pub decreases-loop-i : goal.decreases-loop-i
-decreases-loop-i l = l.end - l.i
