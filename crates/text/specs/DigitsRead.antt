@@ -1,5 +1,5 @@
 -- Laws of a number's digits: what the byte at a place says of the field that stands there.
-use Rattle.std.specs.Prelude.{◌≡◌, ℕ, zero, suc, ◌+◌, ◌-◌, ◌*◌, ◌<◌, ◌≤◌, Bool, true, false, cond, not, ◌&&◌, List, [], ◌∷◌, length, drop, ◌==◌, ◌≢◌, nat_le, nat_lt, slice_index, refl}
+use Rattle.std.specs.Prelude.{◌≡◌, ℕ, zero, suc, ◌+◌, ◌-◌, ◌*◌, ◌<◌, ◌≤◌, Bool, true, false, cond, not, ◌&&◌, List, [], ◌∷◌, length, drop, ◌==◌, ◌≢◌, nat_le, nat_lt, slice_index, refl, Some, None}
 use Rattle.std.proofs.Math.Path.{sym, ap}
 use Rattle.std.proofs.Common.{subst, ◌∙◌, le_refl, add-zero, arith, drop_of_length-le, drop-cons, drop-drop, get_or-drop, eqb-true, ltb-true, ltb-false, leb-true, leb-false, lt-ltb, le-ltb, le-leb, ne_eqb}
 use Rattle.std.proofs.Math.Bool.{and-false}
@@ -8,7 +8,7 @@ use Rattle.std.proofs.lemmas.Bool.{eqb-false, lt-leb}
 use Rattle.document.specs.Text.{fields, is_digit, all_digits, plain, value_from, value_of, is_number}
 use Rattle.laws.specs.WrittenNumbers.{tens}
 use Rattle.text.specs.Places.{first, look_byte, look_at}
-use Rattle.text.specs.NumberAnswers.{value_read, no_value, number_in, number_of}
+use Rattle.text.specs.NumberAnswers.{number_in, number_of}
 use Rattle.text.specs.Fields.{Sep, is_tab, is_lf, within, sep, first_within}
 
 -- what the byte at a place is to a number
@@ -177,7 +177,7 @@ plain_none [] h = refl
 plain_none (b ∷ f) h = absurd (omega arith)
 
 -- the answer to what is no number
-pub number_refused : (from : ℕ) (f : List ℕ) → is_number f ≡ false → number_in from f ≡ no_value
+pub number_refused : (from : ℕ) (f : List ℕ) → is_number f ≡ false → number_in from f ≡ None
 unfolding number_in
 number_refused from f h = rw h
 
@@ -187,20 +187,20 @@ pub digits_number : (from : ℕ) (t : List ℕ) (i v : ℕ) → all_digits (firs
 unfolding number_in
 digits_number from t i v d e h k = go (nat_le i from) (i - from == 1) (slice_index t 0 == 48) refl refl refl
   where
-    value : is_number (first t) ≡ true → value_read v i ≡ number_in from (first t)
+    value : is_number (first t) ≡ true → Some (v, i) ≡ number_in from (first t)
     value n = rw (n, e, k)
 
-    good : plain (first t) ≡ true → value_read v i ≡ number_in from (first t)
+    good : plain (first t) ≡ true → Some (v, i) ≡ number_in from (first t)
     good p = value (good_number (first t) p d (omega (arith, e)))
 
-    bad : plain (first t) ≡ false → no_value ≡ number_in from (first t)
+    bad : plain (first t) ≡ false → None ≡ number_in from (first t)
     bad p = sym (number_refused from (first t) (bad_plain (first t) p))
 
     lead : 1 < length (first t) → plain (first t) ≡ not (slice_index t 0 == 48)
     lead l = plain_lead (first t) l ∙ ap (λ (n : ℕ). not (n == 48)) (first_byte t (omega arith))
 
     go : (x y z : Bool) → nat_le i from ≡ x → (i - from == 1) ≡ y → (slice_index t 0 == 48) ≡ z
-        → cond x no_value (cond y (value_read v i) (cond z no_value (value_read v i))) ≡ number_in from (first t)
+        → cond x None (cond y (Some (v, i)) (cond z None (Some (v, i)))) ≡ number_in from (first t)
     go true y z p q r = bad (plain_none (first t) (omega (arith, leb-true)))
     go false true z p q r = good (plain_one (first t) (omega (arith, leb-false, eqb-true)))
     go false false true p q r =
@@ -263,16 +263,16 @@ module _ (s : List ℕ) (from i v d : ℕ) (inv : DigitsSoFar s from i v d) wher
         known = l;
       }
 
-  pub digits_many : d < 10 → 5 ≤ i - from → number_in from (first (drop from s)) ≡ no_value
+  pub digits_many : d < 10 → 5 ≤ i - from → number_in from (first (drop from s)) ≡ None
   digits_many h k =
       number_refused from (first (drop from s)) (bad_length_law (first (drop from s)) (omega (arith, inv.size, (here h).size)))
 
-  pub digits_large : 65535 < v → number_in from (first (drop from s)) ≡ no_value
+  pub digits_large : 65535 < v → number_in from (first (drop from s)) ≡ None
   digits_large k =
       number_refused from (first (drop from s))
       (bad_value (first (drop from s)) (omega (arith, inv.value, value_grows (first (drop i s)) v)))
 
-  pub digits_other : d ≡ 11 → number_in from (first (drop from s)) ≡ no_value
+  pub digits_other : d ≡ 11 → number_in from (first (drop from s)) ≡ None
   digits_other h =
       number_refused from (first (drop from s))
       (bad_digit (first (drop from s)) (inv.all ∙ look_other (drop i s) (sym inv.sees ∙ h)))

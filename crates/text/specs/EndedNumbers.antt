@@ -1,20 +1,20 @@
 -- A number with the byte that ends it, a tab or an LF, for code that goes through a table's lines with a cursor: t is the text from a place on.
 -- The answers are those of a number's reading, the place being the one after the byte that ends it.
-use Rattle.std.specs.Prelude.{◌≡◌, ℕ, suc, ◌+◌, ◌-◌, ◌*◌, ◌%◌, ◌<◌, ◌≤◌, min, Bool, true, false, cond, ◌&&◌, List, [], ◌∷◌, length, drop, ◌==◌, ◌≢◌, nat_le, nat_lt, slice_index, refl}
+use Rattle.std.specs.Prelude.{◌≡◌, ℕ, suc, ◌+◌, ◌-◌, ◌*◌, ◌%◌, ◌<◌, ◌≤◌, min, Bool, true, false, cond, ◌&&◌, List, [], ◌∷◌, length, drop, ◌==◌, ◌≢◌, nat_le, nat_lt, slice_index, refl, Option, Some, None}
 use Rattle.std.proofs.Common.{sym, ap, ◌∙◌, add-zero, arith, drop-drop, get_or-drop, leb-true, ltb-true, ltb-false, le-leb, ne_eqb}
 use Rattle.std.proofs.Math.Bool.{and-false}
 use Rattle.std.proofs.lemmas.Bool.{eqb-false, lt-leb}
+use Rattle.model.specs.Refusals.{number_says}
 use Rattle.document.specs.Text.{fields, all_digits, plain, value_from, value_of, is_number}
 use Rattle.laws.specs.SumLaws.{and_l}
 use Rattle.text.specs.Places.{first, look_byte, look_at}
-use Rattle.text.specs.NumberAnswers.{value_read, no_value}
 use Rattle.text.specs.Fields.{Sep, is_tab, is_lf, within, sep, fields_parts, first_within}
 use Rattle.text.specs.DigitsRead.{Look, at_end, at_tab, at_lf, other, digit, look, look_inside, look_digit, look_stop, look_other, value_grows, bad_digit}
 use Rattle.text.specs.Numerals.{plain_of}
 
 -- the value v and the next place, if the byte is there
-abbrev pub end_if : Bool → ℕ → ℕ → ℕ × List ℕ
-end_if end v at = cond end (value_read v (at + 1)) no_value
+abbrev pub end_if : Bool → ℕ → ℕ → Option (ℕ × ℕ)
+end_if end v at = cond end (Some (v, at + 1)) None
 
 -- the byte after the field that stands at the front of t
 abbrev pub byte_after : List ℕ → ℕ
@@ -24,13 +24,27 @@ pub byte_front : (t : List ℕ) (n : ℕ) → slice_index (drop n t) 0 ≡ slice
 byte_front t n = get_or-drop n t 0 0 ∙ ap (λ (k : ℕ). slice_index t k) (add-zero n)
 
 -- digits that follow those of v, ended by this byte
-unfoldable pub digits_in : ℕ → ℕ → ℕ → List ℕ → ℕ × List ℕ
+unfoldable pub digits_in : ℕ → ℕ → ℕ → List ℕ → Option (ℕ × ℕ)
 digits_in stop v from t =
     end_if (all_digits (first t) && nat_le (value_from v (first t)) 65535 && byte_after t == stop) (value_from v (first t)) (from + length (first t))
 
 -- a number, ended by this byte
-unfoldable pub field_in : ℕ → ℕ → List ℕ → ℕ × List ℕ
+unfoldable pub field_in : ℕ → ℕ → List ℕ → Option (ℕ × ℕ)
 field_in stop from t = end_if (is_number (first t) && byte_after t == stop) (value_of (first t)) (from + length (first t))
+
+-- what document 01's number and values are for it: the value and the place after the byte that ends it, or refusal 1 and none
+abbrev pub field_said : ℕ → ℕ → List ℕ → ℕ × List ℕ
+field_said stop from t =
+    cond (is_number (first t) && byte_after t == stop) (0, value_of (first t) ∷ (from + length (first t) + 1) ∷ []) (1, [])
+
+-- the answer says so
+pub field_says : {x : Option (ℕ × ℕ)} (stop from : ℕ) (t : List ℕ) → x ≡ field_in stop from t → number_says x ≡ field_said stop from t
+unfolding field_in
+field_says stop from t e = ap number_says e ∙ go (is_number (first t) && byte_after t == stop) (value_of (first t)) (from + length (first t))
+  where
+    go : (b : Bool) (v at : ℕ) → number_says (end_if b v at) ≡ cond b (0, v ∷ (at + 1) ∷ []) (1, [])
+    go true v at = refl
+    go false v at = refl
 
 -- a byte less that of digit 0 is below 10 for a digit alone
 pub digit_less : (b r : ℕ) → r < 256 → (r + 48) % 256 ≡ b → min r 10 ≡ min (look_byte b) 10
@@ -57,7 +71,7 @@ digits_on stop v i t h =
     after (b ∷ t) n = refl
 
 -- a value above 65,535, whatever follows
-pub digits_above : (stop v i : ℕ) (t : List ℕ) → 65535 < v → digits_in stop v i t ≡ no_value
+pub digits_above : (stop v i : ℕ) (t : List ℕ) → 65535 < v → digits_in stop v i t ≡ None
 unfolding digits_in
 digits_above stop v i t h =
     let l : 65535 < value_from v (first t) = omega (arith, value_grows (first t) v) in
@@ -88,14 +102,14 @@ unfolding field_in digits_in is_number
 field_plain stop from t h = rw h
 
 -- the number by its first digit: none, 0, and any other
-pub field_none : (stop from : ℕ) (t : List ℕ) → 10 ≤ look_at t → field_in stop from t ≡ no_value
+pub field_none : (stop from : ℕ) (t : List ℕ) → 10 ≤ look_at t → field_in stop from t ≡ None
 unfolding field_in is_number
 field_none stop from t h = go (look t) refl h
   where
-    none : (t : List ℕ) → look_at t ≡ 10 → field_in stop from t ≡ no_value
+    none : (t : List ℕ) → look_at t ≡ 10 → field_in stop from t ≡ None
     none t e = rw (look_stop t e)
 
-    go : {t : List ℕ} {n : ℕ} → Look t n → look_at t ≡ n → 10 ≤ n → field_in stop from t ≡ no_value
+    go : {t : List ℕ} {n : ℕ} → Look t n → look_at t ≡ n → 10 ≤ n → field_in stop from t ≡ None
     go at_end e h = none [] e
     go (at_tab {t = t}) e h = none (9 ∷ t) e
     go (at_lf {t = t}) e h = none (10 ∷ t) e
@@ -168,7 +182,7 @@ module _ {s : List ℕ} {from value stop i v d : ℕ} (inv : DigitsToEnd s from 
       → DigitsToEnd s from value stop (i + 1) (v * 10 + d) e
   to_end_more e h k q = record { left = more_left h; small = k; sees = q }
 
-  pub to_end_above : d < 10 → 65535 < v * 10 + d → no_value ≡ digits_in stop value from (drop from s)
+  pub to_end_above : d < 10 → 65535 < v * 10 + d → None ≡ digits_in stop value from (drop from s)
   to_end_above h k = sym (more_left h ∙ digits_above stop (v * 10 + d) (i + 1) (drop (i + 1) s) k)
 
   pub to_end : 10 ≤ d → 9 ≤ stop → stop ≤ 10 → end_if (slice_index s i == stop) v i ≡ digits_in stop value from (drop from s)
@@ -181,7 +195,7 @@ module _ {s : List ℕ} {from d : ℕ} (sees : Sees s from d) where
   pub first_inside : d ≤ 9 → from < length s
   first_inside h = look_inside s from (omega arith)
 
-  pub first_none : (stop : ℕ) → 9 < d → no_value ≡ field_in stop from (drop from s)
+  pub first_none : (stop : ℕ) → 9 < d → None ≡ field_in stop from (drop from s)
   first_none stop h = sym (field_none stop from (drop from s) (omega arith))
 
   pub first_zero : (stop : ℕ) → d ≡ 0 → 9 ≤ stop → stop ≤ 10 → end_if (slice_index s (from + 1) == stop) 0 (from + 1) ≡ field_in stop from (drop from s)

@@ -1,10 +1,9 @@
 -- Laws of the search for a line's bad field: the word is compared byte by byte, then the fields are gone through, each after its tab. What is left of
 -- the line from a place on says the rest.
-use Rattle.std.specs.Prelude.{◌≡◌, ℕ, zero, suc, ◌+◌, ◌-◌, ◌*◌, ◌<◌, ◌≤◌, Bool, true, false, not, ◌&&◌, ◌||◌, List, [], ◌∷◌, length, take, drop, ◌==◌, ◌≢◌, nat_lt, slice_index, slice_index_or, refl}
+use Rattle.std.specs.Prelude.{◌≡◌, ℕ, zero, suc, ◌+◌, ◌-◌, ◌*◌, ◌<◌, ◌≤◌, Bool, true, false, not, ◌&&◌, ◌||◌, List, [], ◌∷◌, length, take, drop, ◌==◌, ◌≢◌, nat_lt, slice_index, slice_index_or, refl, Option, Some, None}
 use Rattle.std.proofs.Common.{sym, ap, ◌∙◌, add-one, arith, length-append, length-drop, take-append-drop, ne_eqb}
 use Rattle.std.proofs.Math.Bool.{or-true}
 use Rattle.std.proofs.lemmas.Bool.{false≢true}
-use Rattle.std.proofs.Math.ListN.{drop_of_length-le}
 use Rattle.std.proofs.Math.Seq.{drop-drop, drop-nil}
 use Rattle.model.specs.Limits.{most_nodes}
 use Rattle.laws.specs.Rounds.{same_eq}
@@ -16,10 +15,10 @@ use Rattle.document.specs.BadField.{breaks_form, breaks_flow, breaks_first, firs
 use Rattle.text.specs.Places.{first, more, look_at}
 use Rattle.text.specs.declared.line.Row.{Row}
 use Rattle.text.specs.RowFaults.{nodes_of, row_repeat}
-use Rattle.text.specs.NumberAnswers.{value_read, no_value, number_in}
+use Rattle.text.specs.NumberAnswers.{number_in}
 use Rattle.text.specs.Fields.{Sep, is_tab, is_lf, within, sep, fields_parts, first_within, Past, past_first}
 use Rattle.text.specs.DigitsRead.{Look, at_end, at_tab, at_lf, other, digit, look}
-use Rattle.text.specs.Rows.{drop_byte, NumberReads, number_value_law, number_bad, is_byte, begins, starts, drop_one, Spelling, spelled}
+use Rattle.text.specs.Rows.{drop_byte, NumberReads, number_value_law, number_bad, is_byte, begins, starts, drop_one, word_in, word_stands, word_lacks}
 
 -- a field is this word: its first byte, and the rest
 same_byte : (c : ℕ) (w t : List ℕ) → same (first t) (c ∷ w) ≡ (begins c t && same (first (drop 1 t)) w)
@@ -59,15 +58,14 @@ ends_here t = go (look t)
     go (other {b = b} {t = t} d f g) = more_bytes b t f g
     go (digit {b = b} {t = t} d f g k) = ne_eqb (b - 48) 10 (λ q. omega arith) ∙ more_bytes b t f g
 
-module _ (s w : List ℕ) (from i at : ℕ) (inv : Spelling s w from i at) where
-  pub spelling_word : length w ≤ i → (look_at (drop at s) == 10) ≡ same (first (drop from s)) w
-  unfolding starts
-  spelling_word h =
-      let z : at ≡ from + length w = omega (arith, inv.place, inv.short) in
-      rw (same_word w (drop from s), inv.left, drop_of_length-le w h, drop-drop (length w) from s, ← z) (ends_here (drop at s))
+-- where the word stands, the field is it if it ends there
+pub word_field : (s w : List ℕ) (from at : ℕ) → Some at ≡ word_in w from (drop from s) → (look_at (drop at s) == 10) ≡ same (first (drop from s)) w
+word_field s w from at h =
+    let p = word_stands w from at (drop from s) h in
+    rw (same_word w (drop from s), p.0, drop-drop (length w) from s, ← p.1) (ends_here (drop at s))
 
-  pub spelling_other : i < length w → begins (slice_index w i) (drop at s) ≡ false → false ≡ same (first (drop from s)) w
-  spelling_other h b = sym (same_word w (drop from s) ∙ rw (spelled s w from i at inv h, b))
+pub no_word_field : (s w : List ℕ) (from : ℕ) → None ≡ word_in w from (drop from s) → false ≡ same (first (drop from s)) w
+no_word_field s w from h = sym (same_word w (drop from s) ∙ rw (word_lacks w from (drop from s) h))
 
 -- the place behind a word that stands at this place
 pub record WordEnds (s w : List ℕ) (at : ℕ) : Type 0 where
@@ -159,15 +157,15 @@ unfolding first_breaking
 breaking_none breaks n s i e h = rw (more_none s i e h)
 
 -- the field after the tab at place i, whose reading as a number says x
-pub record NextField (s : List ℕ) (i : ℕ) (x : ℕ × List ℕ) : Type 0 where
+pub record NextField (s : List ℕ) (i : ℕ) (x : Option (ℕ × ℕ)) : Type 0 where
   pub tab_is : slice_index_or s i 0 ≡ 9
   pub says : x ≡ number_in (i + 1) (first (drop (i + 1) s))
 
-module _ {s : List ℕ} {i : ℕ} {x : ℕ × List ℕ} (a : NextField s i x) where
-  pub field_bad : x ≡ no_value → is_number (first (drop (i + 1) s)) ≡ false
+module _ {s : List ℕ} {i : ℕ} {x : Option (ℕ × ℕ)} (a : NextField s i x) where
+  pub field_bad : x ≡ None → is_number (first (drop (i + 1) s)) ≡ false
   field_bad h = number_bad (i + 1) (first (drop (i + 1) s)) (sym a.says ∙ h)
 
-  pub field_read : (v next : ℕ) → x ≡ value_read v next → FieldRead s i next
+  pub field_read : (v next : ℕ) → x ≡ Some (v, next) → FieldRead s i next
   field_read v next h = go (number_value_law (i + 1) (first t) v next (sym a.says ∙ h)) (past_first t)
     where
       t : List ℕ
@@ -190,9 +188,6 @@ pub record FieldsSoFar (s : List ℕ) (from n i : ℕ) : Type 0 where
   pub later : 1 ≤ n
   pub slow : 2 * n ≤ i + 2
 
-pub fields_start : (s : List ℕ) (from : ℕ) → first (drop from s) ≡ [] → FieldsSoFar s from 1 from
-fields_start s from e = record { left = refl; ends = e; later = omega arith; slow = omega arith }
-
 module _ {s : List ℕ} {from n i : ℕ} (inv : FieldsSoFar s from n i) where
   breaks_later : (f : List ℕ) → breaks_flow (suc n) f ≡ not (is_number f)
   breaks_later f = rw (ne_eqb (suc n) 1 (λ q. omega (arith, inv.later)))
@@ -203,11 +198,11 @@ module _ {s : List ℕ} {from n i : ℕ} (inv : FieldsSoFar s from n i) where
   pub fields_done : (slice_index s i ≢ 9) → 0 ≡ first_breaking breaks_flow 2 (more (drop from s))
   fields_done h = sym (inv.left ∙ breaking_none breaks_flow (suc n) s i inv.ends h)
 
-  module _ {x : ℕ × List ℕ} (a : NextField s i x) where
-    pub fields_bad : x ≡ no_value → n + 1 ≡ first_breaking breaks_flow 2 (more (drop from s))
+  module _ {x : Option (ℕ × ℕ)} (a : NextField s i x) where
+    pub fields_bad : x ≡ None → n + 1 ≡ first_breaking breaks_flow 2 (more (drop from s))
     fields_bad h = rw add-one (sym (inv.left ∙ breaking_here s i a.tab_is breaks_flow (suc n) (breaks_later _ ∙ ap not (field_bad a h))))
 
-    pub fields_more : (v next : ℕ) → x ≡ value_read v next → FieldsSoFar s from (n + 1) next
+    pub fields_more : (v next : ℕ) → x ≡ Some (v, next) → FieldsSoFar s from (n + 1) next
     fields_more v next h =
         let r = field_read a v next h in
         record {
@@ -218,11 +213,11 @@ module _ {s : List ℕ} {from n i : ℕ} (inv : FieldsSoFar s from n i) where
         }
 
 -- the first line behind its word: a field that is no number, a field too many, or the number alone
-module _ {s : List ℕ} {from : ℕ} {x : ℕ × List ℕ} (a : NextField s from x) where
-  pub map_bad : x ≡ no_value → 2 ≡ first_breaking breaks_first 2 (more (drop from s))
+module _ {s : List ℕ} {from : ℕ} {x : Option (ℕ × ℕ)} (a : NextField s from x) where
+  pub map_bad : x ≡ None → 2 ≡ first_breaking breaks_first 2 (more (drop from s))
   map_bad h = sym (breaking_here s from a.tab_is breaks_first 2 (ap (λ (b : Bool). not b || nat_lt 2 2) (field_bad a h)))
 
-  module _ (v next : ℕ) (h : x ≡ value_read v next) where
+  module _ (v next : ℕ) (h : x ≡ Some (v, next)) where
     past_map : first_breaking breaks_first 2 (more (drop from s)) ≡ first_breaking breaks_first 3 (more (drop next s))
     past_map = let r = field_read a v next h in breaking_on s from a.tab_is breaks_first 2 next r (ap (λ (b : Bool). not b || nat_lt 2 2) r.good)
 
@@ -233,7 +228,7 @@ module _ {s : List ℕ} {from : ℕ} {x : ℕ × List ℕ} (a : NextField s from
     map_alone e = sym (past_map ∙ breaking_none breaks_first 3 s next (field_read a v next h).ends e)
 
 -- a row's repeat stands among the nodes that the array holds; a row of fewer than four numbers has no nodes
-pub repeat_fits : (r : Row) → row_repeat r ≤ most_nodes
+pub repeat_fits : (r : Row) → row_repeat (Some r) ≤ most_nodes
 repeat_fits r =
     let l = nodes_of r.numbers in
     let n = r.count - 4 in
@@ -245,6 +240,6 @@ repeat_fits r =
       pad_length most_nodes (drop 4 r.numbers),
     )
 
-pub repeat_short : (r : Row) → r.count < 4 → 0 ≡ row_repeat r
+pub repeat_short : (r : Row) → r.count < 4 → 0 ≡ row_repeat (Some r)
 unfolding repeat_at
 repeat_short r h = let z : r.count - 4 ≡ 0 = omega arith in rw z

@@ -1,19 +1,19 @@
 -- A row says of its line what the definitions say of the line itself, so one pass over rows gives the reader's answer.
-use Rattle.std.specs.Prelude.{◌≡◌, ℕ, suc, ◌+◌, ◌-◌, ◌<◌, ◌≤◌, Bool, true, false, cond, ◌&&◌, ◌||◌, List, [], ◌∷◌, length, take, drop, ◌==◌, ◌≢◌, nat_le, nat_lt, slice_index, slice_set, refl}
+use Rattle.std.specs.Prelude.{◌≡◌, ℕ, suc, ◌+◌, ◌-◌, ◌<◌, ◌≤◌, Bool, true, false, cond, ◌&&◌, ◌||◌, List, [], ◌∷◌, length, take, drop, ◌==◌, nat_le, nat_lt, slice_index, slice_set, Option, Some, None, Result, Ok, Err, refl}
 use Rattle.std.proofs.Math.Path.{sym, ap}
-use Rattle.std.proofs.Common.{subst, ◌∙◌, arith, length-drop, drop_of_length-le, drop-cons, leb-true, lt-ltb, eq-eqb, ne_eqb}
+use Rattle.std.proofs.Common.{subst, ◌∙◌, arith, length-drop, drop_of_length-le, drop-cons, leb-true, lt-ltb}
 use Rattle.std.proofs.Math.Bool.{or-true}
 use Rattle.std.proofs.lemmas.Bool.{false≢true}
 use Rattle.std.proofs.Math.Decide.{dec_le}
 use Rattle.std.proofs.Math.ListN.{length-set}
-use Rattle.model.specs.declared.kinds.ChannelMap.{ChannelMap}
 use Rattle.model.specs.declared.kinds.Flow.{Flow}
 use Rattle.model.specs.declared.kinds.FlowSet.{FlowSet}
 use Rattle.model.specs.declared.answers.Reading.{Reading}
+use Rattle.model.specs.declared.answers.Fault.{Fault}
 use Rattle.model.specs.declared.answers.Refusal.{Refusal}
 use Rattle.model.specs.declared.answers.Refusal.TheVariants.{BadForm, TooManyFlows, BadPeriod, BadDeadline, BadTries, BadRoute}
 use Rattle.model.specs.Limits.{most_flows, most_nodes}
-use Rattle.model.specs.Refusals.{refusal_number, good}
+use Rattle.model.specs.Refusals.{good, fault_in}
 use Rattle.document.specs.BadField.{breaks_flow, bad_field, field_of}
 use Rattle.document.specs.Reader.{repeat_at, flow_fault, pad, flow_of, with_flow, flow_line_fault, flow_line_field, accepted, read_flows}
 use Rattle.model.specs.Sets.{blank_set}
@@ -27,7 +27,7 @@ use Rattle.text.specs.Places.{line, after}
 use Rattle.text.specs.Fields.{lines_line, fields_line, formed_line, numbers_line, drop_line}
 use Rattle.text.specs.RowFaults.{nodes_of, flow_row_fault, row_repeat}
 use Rattle.text.specs.PaddedEntries.{pad_at, pad_drop}
-use Rattle.text.specs.RowFaults.{flow_of_row, set_with, reading_of}
+use Rattle.text.specs.RowFaults.{flow_of_row, row_or, flow_row_refused, flow_read}
 use Rattle.laws.specs.Padded.{pad_take}
 
 -- rule 7 refuses a route of more than 17 nodes, whatever they are
@@ -150,6 +150,9 @@ pub row_formed_law : (w : List ℕ) (at : ℕ) (t : List ℕ) → well_formed w 
 unfolding row_in
 row_formed_law w at t h = rw h
 
+pub same_row : {a b : Row} → Some a ≡ Some b → b ≡ a
+same_row h = (cc)
+
 pub record GoodRow (k : ℕ) (t : List ℕ) (r : Row) (at : ℕ) : Type 0 where
   pub fits : k < most_flows
   pub four : 4 ≤ r.count
@@ -157,13 +160,14 @@ pub record GoodRow (k : ℕ) (t : List ℕ) (r : Row) (at : ℕ) : Type 0 where
   pub place : r.next ≡ at + length (line t)
   pub flow : flow_of_row r ≡ flow_of (numbers_of t)
 
-pub good_row : (k at : ℕ) (t : List ℕ) → good (flow_row_fault k (row_in flow_word at t)) ≡ true → GoodRow k t (row_in flow_word at t) at
+pub good_row : (k at : ℕ) (t : List ℕ) (w : Row) → row_in flow_word at t ≡ Some w → good (flow_row_fault k (Some w)) ≡ true → GoodRow k t w at
 unfolding flow_of
-good_row k at t h =
-    let g = good_line k (line t) (subst (λ (x : Refusal). good x ≡ true) (flow_judged k at t) h) in
+good_row k at t w q h =
+    let g = good_line k (line t) (subst (λ (x : Refusal). good x ≡ true) (ap (flow_row_fault k) (sym q) ∙ flow_judged k at t) h) in
     let n = ap length (numbers_line t) in
     let vs = numbers_of t in
-    subst (λ (r : Row). GoodRow k t r at) (sym (row_formed_law flow_word at t (sym (formed_line flow_word t) ∙ g.formed)))
+    let e : Some w ≡ row_if true at t = sym q ∙ row_formed_law flow_word at t (sym (formed_line flow_word t) ∙ g.formed) in
+    subst (λ (r : Row). GoodRow k t r at) (same_row e)
     record {
       fits = g.fits;
       four = omega (arith, g.four);
@@ -192,76 +196,90 @@ pub record Lines (s : List ℕ) (r : Reading) (at k : ℕ) (t : FlowSet) : Type 
   pub long : length t.flows ≡ most_flows
   pub left : r ≡ read_flows t (lines (drop at s))
 
-pub lines_start : (s : List ℕ) (from m : ℕ) (b : FlowSet) → b ≡ blank_set → (c : ChannelMap) → c.0 ≡ m
-    → Lines s (read_flows (set_with m) (lines (drop from s))) from 0 record { map = c; count = b.count; flows = b.flows }
-lines_start s from m b e c h =
-    subst (λ (n : ℕ). Lines s (read_flows (set_with n) (lines (drop from s))) from 0 record { map = c; count = b.count; flows = b.flows }) h
-    (start s from c.0 b e)
-  where
-    start : (s : List ℕ) (from m : ℕ) (b : FlowSet) → b ≡ blank_set
-        → Lines s (read_flows (set_with m) (lines (drop from s))) from 0 record { map = record { 0 = m }; count = b.count; flows = b.flows }
-    start s from m b e =
-        let r = read_flows (set_with m) (lines (drop from s)) in
-        subst (λ (t : FlowSet). Lines s r from 0 record { map = record { 0 = m }; count = t.count; flows = t.flows }) (sym e)
-        record { many = refl; few = omega arith; long = refl; left = refl }
-
 module _ (s : List ℕ) (r : Reading) (at k : ℕ) (t : FlowSet) (inv : Lines s r at k t) where
   pub lines_done : length s ≤ at → accepted t ≡ r
   unfolding lines read_flows
   lines_done h = sym (inv.left ∙ ap (λ (u : List ℕ). read_flows t (lines u)) (drop_of_length-le s h))
 
--- the reading at its next line, whose row is w and whose refusal is x
-pub record NextLine (s : List ℕ) (r : Reading) (at k : ℕ) (t : FlowSet) (w : Row) (x : Refusal) : Type 0 where
+-- the row that there is and is good, or the error
+pub row_ok : {E : Type 0} (b : Bool) (e : E) (o : Option Row) (w : Row) → Ok w ≡ row_or b e o → (o ≡ Some w) × (b ≡ true)
+row_ok true e (Some r) w h = ((cc), refl)
+row_ok false e (Some r) w h = absurd (cc)
+row_ok b e None w h = absurd (cc)
+
+pub row_err : {E : Type 0} (b : Bool) (e : E) (o : Option Row) (y : E) → (o ≡ None → b ≡ false) → Err y ≡ row_or b e o → (y ≡ e) × (b ≡ false)
+row_err true e (Some r) y n h = absurd (cc)
+row_err false e (Some r) y n h = ((cc), refl)
+row_err b e None y n h = ((cc), n refl)
+
+-- a line without a row is refused
+flow_row_none : (k : ℕ) (o : Option Row) → o ≡ None → good (flow_row_fault k o) ≡ false
+flow_row_none k o e = rw e
+
+-- the line of flow number k, whose row o is refused by x
+pub flow_line_bad : (k at : ℕ) (t : List ℕ) (o : Option Row) (x : Refusal) → o ≡ row_in flow_word at t
+    → Err x ≡ row_or (good (flow_row_fault k o)) (flow_row_fault k o) o
+    → (f : ℕ) → f ≡ field_of x (bad_field breaks_flow t) (row_repeat o) → Err (fault_in x (k + 2) f) ≡ flow_read k at t
+flow_line_bad k at t o x e h f q =
+    let p = row_err _ _ o x (flow_row_none k o) h in rw (← e, q, p.0) (bad_row o _ _ p.1)
+  where
+    bad_row : (o : Option Row) (b : Bool) (g : Fault) → b ≡ false → Err g ≡ row_or b g o
+    bad_row (Some r) b g h = rw h
+    bad_row None b g h = refl
+
+-- the reading at its next line, which is read as x
+pub record NextLine (s : List ℕ) (r : Reading) (at k : ℕ) (t : FlowSet) (x : Result Row Fault) : Type 0 where
   pub so_far : Lines s r at k t
   pub inside : at < length s
-  pub row_is : w ≡ row_in flow_word at (drop at s)
-  pub refusal_is : x ≡ flow_row_fault k w
+  pub says : x ≡ flow_read k at (drop at s)
 
-module _ {s : List ℕ} {r : Reading} {at k : ℕ} {t : FlowSet} {w : Row} {x : Refusal} (l : NextLine s r at k t w x) where
+module _ {s : List ℕ} {r : Reading} {at k : ℕ} {t : FlowSet} {x : Result Row Fault} (l : NextLine s r at k t x) where
   next : lines (drop at s) ≡ line (drop at s) ∷ lines (after (drop at s))
   next = rw (drop-cons s at 0 l.inside) (lines_line (slice_index s at) (drop (suc at) s))
 
-  judged : flow_line_fault t.count (line (drop at s)) ≡ x
-  judged =
-      ap (λ (n : ℕ). flow_line_fault n (line (drop at s))) l.so_far.many
-      ∙ sym (flow_judged k at (drop at s))
-      ∙ sym (l.refusal_is ∙ ap (flow_row_fault k) l.row_is)
+  judged : flow_line_fault t.count (line (drop at s)) ≡ flow_row_fault k (row_in flow_word at (drop at s))
+  judged = ap (λ (n : ℕ). flow_line_fault n (line (drop at s))) l.so_far.many ∙ sym (flow_judged k at (drop at s))
 
-  field_judged : flow_line_field t.count (line (drop at s)) ≡ field_of x (bad_field breaks_flow (drop at s)) (row_repeat w)
-  field_judged =
-      ap (λ (n : ℕ). flow_line_field n (line (drop at s))) l.so_far.many
-      ∙ sym (flow_field k at (drop at s))
-      ∙ rw (← l.row_is, ← l.refusal_is)
+  field_judged : flow_line_field t.count (line (drop at s)) ≡ (flow_row_refused k (row_in flow_word at (drop at s)) (drop at s)).field
+  field_judged = ap (λ (n : ℕ). flow_line_field n (line (drop at s))) l.so_far.many ∙ sym (flow_field k at (drop at s))
 
-  pub lines_refused : (f : ℕ) → f ≡ field_of x (bad_field breaks_flow (drop at s)) (row_repeat w) → (b : FlowSet) → b ≡ blank_set
-      → (refusal_number x ≢ 0) → reading_of x (k + 2) f b ≡ r
-  lines_refused f p u v b =
-      ap (reading_of x (k + 2) f) v
+  refused : (f : Fault) → x ≡ Err f
+      → (f ≡ flow_row_refused k (row_in flow_word at (drop at s)) (drop at s)) × (good (flow_row_fault k (row_in flow_word at (drop at s))) ≡ false)
+  refused f e = row_err _ _ (row_in flow_word at (drop at s)) f (flow_row_none k (row_in flow_word at (drop at s))) (sym e ∙ l.says)
+
+  pub lines_refused : (f : Fault) → x ≡ Err f → (b : FlowSet) → b ≡ blank_set → record { fault = f; set = b } ≡ r
+  lines_refused f e b v =
+      let p = refused f e in
+      ap (λ (u : FlowSet). record { fault = f; set = u }) v
       ∙ sym
       (l.so_far.left ∙ ap (read_flows t) next
-      ∙ read_bad t (line (drop at s)) _ (subst (λ (y : Refusal). good y ≡ false) (sym judged) (ne_eqb (refusal_number x) 0 b))
-      ∙ rw (field_judged ∙ sym p, judged, l.so_far.many))
+      ∙ read_bad t (line (drop at s)) _ (ap good judged ∙ p.1)
+      ∙ rw (p.0, field_judged, judged, l.so_far.many))
 
-  pub lines_good : refusal_number x ≡ 0 → GoodRow k (drop at s) w at
-  lines_good b =
-      subst (λ (v : Row). GoodRow k (drop at s) v at) (sym l.row_is)
-      (good_row k at (drop at s) (subst (λ (y : Refusal). good y ≡ true) (l.refusal_is ∙ ap (flow_row_fault k) l.row_is) (eq-eqb (refusal_number x) 0 b)))
+  module _ (w : Row) (e : x ≡ Ok w) where
+    row_read : (row_in flow_word at (drop at s) ≡ Some w) × (good (flow_row_fault k (Some w)) ≡ true)
+    row_read =
+        let p = row_ok _ _ (row_in flow_word at (drop at s)) w (sym e ∙ l.says) in
+        (p.0, ap (λ (o : Option Row). good (flow_row_fault k o)) (sym p.0) ∙ p.1)
 
-  -- the next line begins further on
-  pub lines_on : refusal_number x ≡ 0 → at < w.next
-  lines_on b = omega (arith, (lines_good b).place, line_one (drop at s) (omega (arith, length-drop at s, l.inside)))
+    pub lines_good : GoodRow k (drop at s) w at
+    lines_good = let p = row_read in good_row k at (drop at s) w p.0 p.1
 
-  pub lines_more : refusal_number x ≡ 0 → (f : Flow) → f ≡ flow_of_row w
-      → Lines s r w.next (k + 1) record { map = t.map; count = k + 1; flows = slice_set t.flows k f }
-  unfolding with_flow
-  lines_more b f p =
-      let g = lines_good b in
-      record {
-        many = refl;
-        few = omega (arith, g.fits);
-        long = length-set t.flows k f ∙ l.so_far.long;
-        left =
-            l.so_far.left ∙ ap (read_flows t) next
-            ∙ read_good t (line (drop at s)) _ (subst (λ (y : Refusal). good y ≡ true) (sym judged) (eq-eqb (refusal_number x) 0 b))
-            ∙ rw (l.so_far.many, numbers_line (drop at s), ← g.flow, ← p, g.place, drop_line s at);
-      }
+    -- the next line begins further on
+    pub lines_on : at < w.next
+    lines_on = omega (arith, lines_good.place, line_one (drop at s) (omega (arith, length-drop at s, l.inside)))
+
+    pub lines_more : (f : Flow) → f ≡ flow_of_row w → Lines s r w.next (k + 1) record { map = t.map; count = k + 1; flows = slice_set t.flows k f }
+    unfolding with_flow
+    lines_more f p =
+        let g = lines_good in
+        let q = row_read in
+        record {
+          many = refl;
+          few = omega (arith, g.fits);
+          long = length-set t.flows k f ∙ l.so_far.long;
+          left =
+              l.so_far.left ∙ ap (read_flows t) next
+              ∙ read_good t (line (drop at s)) _ (ap good (judged ∙ ap (flow_row_fault k) q.0) ∙ q.1)
+              ∙ rw (l.so_far.many, numbers_line (drop at s), ← g.flow, ← p, g.place, drop_line s at);
+        }

@@ -1,23 +1,21 @@
 -- A table's lines judged one after the other: what is left of them, after the row before, says the rest.
-use Rattle.std.specs.Prelude.{◌≡◌, ℕ, suc, ◌+◌, ◌*◌, ◌<◌, ◌≤◌, Bool, true, false, cond, ◌&&◌, ◌||◌, List, [], ◌∷◌, length, drop, ◌==◌, nat_le, nat_lt, slice_index}
+use Rattle.std.specs.Prelude.{◌≡◌, ℕ, suc, ◌+◌, ◌*◌, ◌<◌, ◌≤◌, Bool, true, false, cond, ◌&&◌, ◌||◌, List, [], ◌∷◌, length, drop, ◌==◌, nat_le, nat_lt, slice_index, Option, Some, None, Result, Ok, Err}
 use Rattle.std.proofs.Math.Path.{refl, sym, ap}
-use Rattle.std.proofs.Common.{subst, ◌∙◌, zero-le, arith, length-drop, drop_of_length-le, drop-cons, ltb-true, ltb-false, eqb-true, le-leb}
+use Rattle.std.proofs.Common.{◌∙◌, zero-le, arith, length-drop, drop_of_length-le, drop-cons, ltb-true, ltb-false, eqb-true, le-leb}
 use Rattle.std.proofs.Math.Bool.{and-false}
-use Rattle.std.proofs.lemmas.Bool.{false≢true, eqb-false, lt-leb}
+use Rattle.std.proofs.lemmas.Bool.{eqb-false, lt-leb}
 use Rattle.model.specs.declared.answers.Fault.{Fault}
 use Rattle.model.specs.declared.answers.Refusal.TheVariants.{BadForm}
 use Rattle.model.specs.Refusals.{good, fault_at, no_fault}
 use Rattle.document.specs.Superframe.{row_formed, row_of, above, lines_fault, form_fault}
 use Rattle.document.specs.Text.{lines, fields, values_of}
 use Rattle.laws.specs.WrittenNumbers.{values_length}
-use Rattle.text.specs.declared.table.Judged.{Judged}
-use Rattle.text.specs.declared.table.RowRead.TheVariants.{Found, Bad}
 use Rattle.text.specs.Places.{line, after}
 use Rattle.text.specs.Fields.{lines_line, fields_line, ended_line, drop_line}
 use Rattle.text.specs.FlowRows.{line_one}
 use Rattle.text.specs.WrittenLines.{small_at, values_small}
 use Rattle.text.specs.TableLines.{row_form}
-use Rattle.text.specs.RowAtPlace.{row_says, found_if, found_in}
+use Rattle.text.specs.RowAtPlace.{found_if, found_in}
 
 -- slot and offset as one number, which rises as they do
 abbrev pub key_of : ℕ → ℕ → ℕ
@@ -77,24 +75,26 @@ record FoundRow (t : List ℕ) (from slot offset next : ℕ) : Type 0 where
   last : offset ≡ slice_index (row_of t) 3
   place : next ≡ from + length (line t)
 
-found_row : (t : List ℕ) (from slot offset next : ℕ) → found_in from t ≡ row_says (Found slot offset next) → FoundRow t from slot offset next
+found_row : (t : List ℕ) (from slot offset next : ℕ) → found_in from t ≡ Some (slot, offset, next) → FoundRow t from slot offset next
 unfolding found_in
 found_row t from slot offset next h = go (row_formed t) refl h
   where
-    at : ℕ → ℕ × List ℕ → ℕ
-    at i x = slice_index x.1 i
+    parts : {a b c d e f : ℕ} → ◌≡◌ {A = Option (ℕ × ℕ × ℕ)} (Some (a, b, c)) (Some (d, e, f)) → (a ≡ d) × (b ≡ e) × (c ≡ f)
+    parts {a} {b} {c} {d} {e} {f} h =
+        let p : ◌≡◌ {A = ℕ × ℕ × ℕ} (a, b, c) (d, e, f) = (cc) in
+        (ap (λ (x : ℕ × ℕ × ℕ). x.0) p, ap (λ (x : ℕ × ℕ × ℕ). x.1) p, ap (λ (x : ℕ × ℕ × ℕ). x.2) p)
 
-    go : (b : Bool) → row_formed t ≡ b → found_if b from t ≡ row_says (Found slot offset next) → FoundRow t from slot offset next
-    go true e h = record { formed = e; first = sym (ap (at 0) h); last = sym (ap (at 1) h); place = sym (ap (at 2) h) }
-    go false e h = absurd (omega (arith, ap (λ (x : ℕ × List ℕ). x.0) h))
+    go : (b : Bool) → row_formed t ≡ b → found_if b from t ≡ Some (slot, offset, next) → FoundRow t from slot offset next
+    go true e h = let p = parts h in record { formed = e; first = sym p.0; last = sym p.1; place = sym p.2 }
+    go false e h = absurd (cc)
 
 -- the judging at its next line, whose reading says x
-pub record NextRow (s : List ℕ) (at rows least : ℕ) (x : ℕ × List ℕ) : Type 0 where
+pub record NextRow (s : List ℕ) (at rows least : ℕ) (x : Option (ℕ × ℕ × ℕ)) : Type 0 where
   pub so_far : Judging s at rows least
   pub inside : at < length s
   pub says : x ≡ found_in at (drop at s)
 
-module _ {s : List ℕ} {at rows least : ℕ} {x : ℕ × List ℕ} (n : NextRow s at rows least x) where
+module _ {s : List ℕ} {at rows least : ℕ} {x : Option (ℕ × ℕ × ℕ)} (n : NextRow s at rows least x) where
   next : lines (drop at s) ≡ line (drop at s) ∷ lines (after (drop at s))
   next = rw (drop-cons s at 0 n.inside) (lines_line (slice_index s at) (drop (suc at) s))
 
@@ -105,16 +105,16 @@ module _ {s : List ℕ} {at rows least : ℕ} {x : ℕ × List ℕ} (n : NextRow
       let r = row_line (drop at s) in n.so_far.left ∙ ap (lines_fault (rows + 1) n.so_far.prev) next ∙ rw (r.0, r.1, e)
 
   -- a line that lacks the form
-  pub row_refused : x ≡ row_says Bad → fault_at BadForm (rows + 1) ≡ form_fault s
+  pub row_refused : x ≡ None → fault_at BadForm (rows + 1) ≡ form_fault s
   unfolding found_in
   row_refused h = sym (judged false (go (row_formed (drop at s)) (sym n.says ∙ h)))
     where
-      go : (b : Bool) → found_if b at (drop at s) ≡ row_says Bad → (b && above n.so_far.prev (row_of (drop at s))) ≡ false
-      go true e = absurd (omega (arith, ap (λ (y : ℕ × List ℕ). y.0) e))
+      go : (b : Bool) → found_if b at (drop at s) ≡ None → (b && above n.so_far.prev (row_of (drop at s))) ≡ false
+      go true e = absurd (cc)
       go false e = refl
 
   -- a row, its key tested against the least
-  module _ (slot offset p : ℕ) (h : x ≡ row_says (Found slot offset p)) where
+  module _ (slot offset p : ℕ) (h : x ≡ Some (slot, offset, p)) where
     reads : FoundRow (drop at s) at slot offset p
     reads = found_row (drop at s) at slot offset p (sym n.says ∙ h)
 
@@ -152,16 +152,30 @@ judging_ends s at rows least inv h =
       omega (arith, inv.count, ap (λ (t : List ℕ). length (lines t)) d),
     )
 
--- what is judged of a text: its fault, and if there is none how many lines it has
-pub record Judges (s : List ℕ) (r : Judged) : Type 0 where
-  pub fault_is_law : r.fault ≡ form_fault s
-  pub rows_are : good r.fault.refusal ≡ true → r.rows ≡ length (lines s)
+-- what is judged of a text: how many lines it has, or its fault
+unfoldable pub judges : List ℕ → Result ℕ Fault
+judges s = cond (good (form_fault s).refusal) (Ok (length (lines s))) (Err (form_fault s))
 
-pub judges_bad : (s : List ℕ) (r : Judged) (rows : ℕ) → r ≡ record { fault = fault_at BadForm (rows + 1); rows = rows }
-    → fault_at BadForm (rows + 1) ≡ form_fault s → Judges s r
-judges_bad s r rows e f =
-    subst (λ (j : Judged). Judges s j) (sym e) record { fault_is_law = f; rows_are = λ g. absurd (false≢true g) }
+pub judges_bad : (s : List ℕ) (rows : ℕ) → fault_at BadForm (rows + 1) ≡ form_fault s → Err (fault_at BadForm (rows + 1)) ≡ judges s
+unfolding judges
+judges_bad s rows f = rw (← f)
 
-pub judges_good : (s : List ℕ) (f : Fault) (rows : ℕ) → f ≡ no_fault → (no_fault ≡ form_fault s) × (rows ≡ length (lines s))
-    → Judges s record { fault = f; rows = rows }
-judges_good s f rows e h = record { fault_is_law = e ∙ h.0; rows_are = λ g. h.1 }
+pub judges_good : (s : List ℕ) (rows : ℕ) → (no_fault ≡ form_fault s) × (rows ≡ length (lines s)) → Ok rows ≡ judges s
+unfolding judges
+judges_good s rows h = rw (← h.0, h.1)
+
+pub judges_ok : (s : List ℕ) (rows : ℕ) → Ok rows ≡ judges s → (good (form_fault s).refusal ≡ true) × (rows ≡ length (lines s))
+unfolding judges
+judges_ok s rows h = go (good (form_fault s).refusal) h
+  where
+    go : (b : Bool) → Ok rows ≡ cond b (Ok (length (lines s))) (Err (form_fault s)) → (b ≡ true) × (rows ≡ length (lines s))
+    go true e = (refl, (cc))
+    go false e = absurd (cc)
+
+pub judges_err : (s : List ℕ) (f : Fault) → Err f ≡ judges s → (good (form_fault s).refusal ≡ false) × (f ≡ form_fault s)
+unfolding judges
+judges_err s f h = go (good (form_fault s).refusal) h
+  where
+    go : (b : Bool) → Err f ≡ cond b (Ok (length (lines s))) (Err (form_fault s)) → (b ≡ false) × (f ≡ form_fault s)
+    go true e = absurd (cc)
+    go false e = (refl, (cc))

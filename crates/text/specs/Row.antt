@@ -1,5 +1,5 @@
--- What a line's answer says: its numbers with the place of the next line, or that it lacks the form.
-use Rattle.std.specs.Prelude.{ℕ, ◌+◌, Bool, true, false, List, length, replicate}
+-- What a line's reading answers: its numbers with the place of the next line, or nothing where it lacks the form.
+use Rattle.std.specs.Prelude.{ℕ, ◌+◌, Bool, true, false, Option, Some, None, List, length}
 use Rattle.model.specs.Limits.{most_nodes}
 use Rattle.document.specs.Reader.{pad}
 use Rattle.document.specs.Text.{well_formed, numbers_of}
@@ -10,15 +10,11 @@ use Rattle.text.specs.declared.line.Row.{Row}
 abbrev pub most_numbers : ℕ
 most_numbers = 4 + most_nodes
 
--- what stands for a line that lacks its form
-abbrev pub no_row : Row
-no_row = record { formed = false; count = 0; numbers = replicate most_numbers 0; next = 0 }
-
 -- the row of a line of this word, t the text from this place on: how many numbers it has, the first of them, and the place of the
 -- next line
-abbrev pub row_if : Bool → ℕ → List ℕ → Row
-row_if true from t = record { formed = true; count = length (numbers_of t); numbers = pad most_numbers (numbers_of t); next = from + length (line t) }
-row_if false from t = no_row
+abbrev pub row_if : Bool → ℕ → List ℕ → Option Row
+row_if true from t = Some record { count = length (numbers_of t); numbers = pad most_numbers (numbers_of t); next = from + length (line t) }
+row_if false from t = None
 
-unfoldable pub row_in : List ℕ → ℕ → List ℕ → Row
+unfoldable pub row_in : List ℕ → ℕ → List ℕ → Option Row
 row_in word from t = row_if (well_formed word t) from t

@@ -1,6 +1,6 @@
 -- The row at a place, for code that goes through a table's lines with a cursor: past a number and its tab the rest of the line is one of fewer
 -- numbers, and the last number stands before LF.
-use Rattle.std.specs.Prelude.{◌≡◌, ℕ, suc, ◌+◌, ◌<◌, Bool, true, false, ◌&&◌, List, [], ◌∷◌, ◌++◌, length, drop, ◌==◌, ◌≢◌, slice_index}
+use Rattle.std.specs.Prelude.{◌≡◌, ℕ, suc, ◌+◌, ◌<◌, Bool, true, false, cond, ◌&&◌, List, [], ◌∷◌, ◌++◌, length, drop, ◌==◌, ◌≢◌, slice_index, Option, Some, None}
 use Rattle.std.proofs.Math.Path.{refl, ap}
 use Rattle.std.proofs.Common.{sym, subst, ◌∙◌, append_assoc, arith, drop-drop}
 use Rattle.std.proofs.Math.Bool.{and-false}
@@ -9,26 +9,38 @@ use borrow.Author.Tests.{eqb-true, eqb-false, ne_eqb}
 use Rattle.document.specs.Superframe.{row_formed, row_of}
 use Rattle.document.specs.Text.{ended, fields, value_of, is_number, all_numbers, values_of}
 use Rattle.laws.specs.SumLaws.{and_l, and_r}
-use Rattle.text.specs.declared.table.RowRead.{RowRead}
-use Rattle.text.specs.declared.table.RowRead.TheVariants.{Found, Bad}
 use Rattle.text.specs.Places.{first, more, line}
-use Rattle.text.specs.NumberAnswers.{value_read, no_value}
+use Rattle.text.specs.NumberAnswers.{same_parts}
 use Rattle.text.specs.Fields.{Sep, is_tab, is_lf, within, sep, fields_parts, first_within, Past, past_first}
 use Rattle.text.specs.Rows.{drop_byte}
 use Rattle.text.specs.EndedNumbers.{end_if, byte_after, byte_front, field_in}
 
--- what a row's reading says: its slot and offset with the place of the next line, or that the line lacks the form
-abbrev pub row_says : RowRead → ℕ × List ℕ
-row_says (Found slot offset next) = (0, slot ∷ offset ∷ next ∷ [])
-row_says Bad = (1, [])
-
-abbrev pub found_if : Bool → ℕ → List ℕ → ℕ × List ℕ
-found_if true from t = (0, slice_index (row_of t) 0 ∷ slice_index (row_of t) 3 ∷ (from + length (line t)) ∷ [])
-found_if false from t = (1, [])
+-- what a row's reading answers: its slot and offset with the place of the next line, or nothing where the line lacks the form
+abbrev pub found_if : Bool → ℕ → List ℕ → Option (ℕ × ℕ × ℕ)
+found_if true from t = Some (slice_index (row_of t) 0, slice_index (row_of t) 3, from + length (line t))
+found_if false from t = None
 
 -- the answer to the line that stands at the front of t
-unfoldable pub found_in : ℕ → List ℕ → ℕ × List ℕ
+unfoldable pub found_in : ℕ → List ℕ → Option (ℕ × ℕ × ℕ)
 found_in from t = found_if (row_formed t) from t
+
+-- the number and the values of each case of a row's reading
+abbrev pub row_says : Option (ℕ × ℕ × ℕ) → ℕ × List ℕ
+row_says (Some (slot, offset, next)) = (0, slot ∷ offset ∷ next ∷ [])
+row_says None = (1, [])
+
+-- what these are for the line that stands at the front of t
+abbrev pub row_said : ℕ → List ℕ → ℕ × List ℕ
+row_said from t = cond (row_formed t) (0, slice_index (row_of t) 0 ∷ slice_index (row_of t) 3 ∷ (from + length (line t)) ∷ []) (1, [])
+
+-- the answer says so
+pub row_said_law : {x : Option (ℕ × ℕ × ℕ)} (from : ℕ) (t : List ℕ) → x ≡ found_in from t → row_says x ≡ row_said from t
+unfolding found_in
+row_said_law from t e = ap row_says e ∙ go (row_formed t)
+  where
+    go : (b : Bool) → row_says (found_if b from t) ≡ cond b (0, slice_index (row_of t) 0 ∷ slice_index (row_of t) 3 ∷ (from + length (line t)) ∷ []) (1, [])
+    go true = refl
+    go false = refl
 
 -- the rest of a line has k numbers and its LF
 abbrev formed : ℕ → List ℕ → Bool
@@ -45,30 +57,27 @@ pub record FieldReads (t : List ℕ) (stop from v next : ℕ) : Type 0 where
   pub value : v ≡ value_of (first t)
   pub place : next ≡ from + length (first t) + 1
 
-field_reads : (t : List ℕ) (stop from v next : ℕ) → field_in stop from t ≡ value_read v next → FieldReads t stop from v next
+field_reads : (t : List ℕ) (stop from v next : ℕ) → field_in stop from t ≡ Some (v, next) → FieldReads t stop from v next
 unfolding field_in
 field_reads t stop from v next h = go (is_number (first t) && byte_after t == stop) refl h
   where
-    at : ℕ → ℕ × List ℕ → ℕ
-    at i x = slice_index x.1 i
-
-    go : (b : Bool) → (is_number (first t) && byte_after t == stop) ≡ b → end_if b (value_of (first t)) (from + length (first t)) ≡ value_read v next
+    go : (b : Bool) → (is_number (first t) && byte_after t == stop) ≡ b → end_if b (value_of (first t)) (from + length (first t)) ≡ Some (v, next)
         → FieldReads t stop from v next
     go true e h =
         record {
           good = and_l (is_number (first t)) _ e;
           byte = eqb-true (byte_after t) stop (and_r (is_number (first t)) _ e);
-          value = sym (ap (at 0) h);
-          place = sym (ap (at 1) h);
+          value = sym (same_parts h).0;
+          place = sym (same_parts h).1;
         }
-    go false e h = absurd (omega (arith, ap (λ (x : ℕ × List ℕ). x.0) h))
+    go false e h = absurd (cc)
 
-field_bad : (t : List ℕ) (stop from : ℕ) → field_in stop from t ≡ no_value → (is_number (first t) && byte_after t == stop) ≡ false
+field_bad : (t : List ℕ) (stop from : ℕ) → field_in stop from t ≡ None → (is_number (first t) && byte_after t == stop) ≡ false
 unfolding field_in
 field_bad t stop from h = go (is_number (first t) && byte_after t == stop) h
   where
-    go : (b : Bool) → end_if b (value_of (first t)) (from + length (first t)) ≡ no_value → b ≡ false
-    go true h = absurd (omega (arith, ap (λ (x : ℕ × List ℕ). x.0) h))
+    go : (b : Bool) → end_if b (value_of (first t)) (from + length (first t)) ≡ None → b ≡ false
+    go true h = absurd (cc)
     go false h = refl
 
 -- what stands after a field: the text's end, a tab or an LF
@@ -156,7 +165,7 @@ module _ {s : List ℕ} {from at k : ℕ} {vs : List ℕ} (inv : RowSoFar s from
   split v next stop f = inv.row ∙ ap (λ (fs : List (List ℕ)). vs ++ values_of fs) (fields_parts (drop at s)) ∙ rw f.value
 
   -- past a number that a tab ends
-  pub row_next : (v next : ℕ) → field_in 9 at (drop at s) ≡ value_read v next → RowSoFar s from next k (vs ++ (v ∷ []))
+  pub row_next : (v next : ℕ) → field_in 9 at (drop at s) ≡ Some (v, next) → RowSoFar s from next k (vs ++ (v ∷ []))
   row_next v next h =
       let t = drop at s in
       let f = field_reads t 9 at v next h in
@@ -175,7 +184,7 @@ module _ {s : List ℕ} {from at k : ℕ} {vs : List ℕ} (inv : RowSoFar s from
       }
 
   -- a number that is none or lacks its tab, where two or more are left
-  pub row_no_tab : 0 < k → field_in 9 at (drop at s) ≡ no_value → row_says Bad ≡ found_in from (drop from s)
+  pub row_no_tab : 0 < k → field_in 9 at (drop at s) ≡ None → None ≡ found_in from (drop from s)
   unfolding found_in all_numbers
   row_no_tab l h =
       let t = drop at s in
@@ -191,7 +200,7 @@ module _ {s : List ℕ} {from at k : ℕ} {vs : List ℕ} (inv : RowSoFar s from
 
 module _ {s : List ℕ} {from at : ℕ} {vs : List ℕ} (inv : RowSoFar s from at 1 vs) where
   -- the last number, which LF ends
-  pub row_ends : (v next : ℕ) → field_in 10 at (drop at s) ≡ value_read v next
+  pub row_ends : (v next : ℕ) → field_in 10 at (drop at s) ≡ Some (v, next)
       → (row_formed (drop from s) ≡ true) × (row_of (drop from s) ≡ vs ++ (v ∷ [])) × (next ≡ from + length (line (drop from s)))
   unfolding all_numbers values_of
   row_ends v next h =
@@ -203,7 +212,7 @@ module _ {s : List ℕ} {from at : ℕ} {vs : List ℕ} (inv : RowSoFar s from a
         omega (arith, inv.size, p.size, f.place),
       )
 
-  pub row_no_lf : field_in 10 at (drop at s) ≡ no_value → row_says Bad ≡ found_in from (drop from s)
+  pub row_no_lf : field_in 10 at (drop at s) ≡ None → None ≡ found_in from (drop from s)
   unfolding found_in
   row_no_lf h = let t = drop at s in rw (inv.form ∙ formed_parts 0 t ∙ go (is_number (first t)) (all_numbers (more t)) (field_bad t 10 at h))
     where
@@ -214,6 +223,6 @@ module _ {s : List ℕ} {from at : ℕ} {vs : List ℕ} (inv : RowSoFar s from a
 
 pub row_found : (s : List ℕ) (from a b c d next : ℕ)
     → (row_formed (drop from s) ≡ true) × (row_of (drop from s) ≡ a ∷ b ∷ c ∷ d ∷ []) × (next ≡ from + length (line (drop from s)))
-    → row_says (Found a d next) ≡ found_in from (drop from s)
+    → Some (a, d, next) ≡ found_in from (drop from s)
 unfolding found_in
 row_found s from a b c d next h = rw (h.0, h.1, h.2)

@@ -1,6 +1,6 @@
 -- Laws of a line's numbers: past a tab and a number the rest of the line is a shorter one of the same kind.
-use Rattle.std.specs.Prelude.{◌≡◌, ℕ, zero, suc, ◌+◌, ◌<◌, ◌≤◌, Bool, true, false, not, ◌&&◌, List, [], ◌∷◌, ◌++◌, length, take, drop, replicate, ◌==◌, ◌≢◌, slice_index, slice_index_or, slice_set, refl}
-use Rattle.std.proofs.Common.{sym, subst, ◌∙◌, zero-le, le_refl, add-one, arith, drop_of_length-le, length-set, drop-cons, drop-drop, ne_eqb}
+use Rattle.std.specs.Prelude.{◌≡◌, ℕ, zero, suc, ◌+◌, ◌<◌, ◌≤◌, Bool, true, false, cond, not, ◌&&◌, List, [], ◌∷◌, ◌++◌, length, take, drop, replicate, ◌==◌, ◌≢◌, slice_index, slice_index_or, slice_set, refl, Option, Some, None}
+use Rattle.std.proofs.Common.{sym, subst, ◌∙◌, le_refl, add-one, arith, drop_of_length-le, length-set, drop-cons, drop-drop, ne_eqb}
 use Rattle.std.proofs.Math.Path.{ap}
 use Rattle.std.proofs.lemmas.Bool.{false≢true}
 use Rattle.std.proofs.Math.Decide.{dec_le}
@@ -11,8 +11,8 @@ use Rattle.laws.specs.SumLaws.{and_l, and_r}
 use Rattle.document.specs.Reader.{pad}
 use Rattle.document.specs.Text.{same, ended, fields, value_of, is_number, all_numbers, values_of, well_formed, numbers_of}
 use Rattle.text.specs.Places.{first, more, line}
-use Rattle.text.specs.NumberAnswers.{value_read, no_value, number_if, number_in}
-use Rattle.text.specs.Row.{most_numbers, no_row, row_if, row_in}
+use Rattle.text.specs.NumberAnswers.{number_if, number_in, same_parts}
+use Rattle.text.specs.Row.{most_numbers, row_if, row_in}
 use Rattle.text.specs.Fields.{Sep, is_tab, is_lf, within, sep, fields_parts, more_within, line_within, Past, past_first}
 
 -- a byte that is not 0 stands at the front of what is left
@@ -51,23 +51,20 @@ pub record NumberReads (f : List ℕ) (from v next : ℕ) : Type 0 where
   pub value : v ≡ value_of f
   pub place : next ≡ from + length f
 
-pub number_value_law : (from : ℕ) (f : List ℕ) (v next : ℕ) → number_in from f ≡ value_read v next → NumberReads f from v next
+pub number_value_law : (from : ℕ) (f : List ℕ) (v next : ℕ) → number_in from f ≡ Some (v, next) → NumberReads f from v next
 unfolding number_in
 number_value_law from f v next h = go (is_number f) refl h
   where
-    at : ℕ → ℕ × List ℕ → ℕ
-    at i x = slice_index x.1 i
+    go : (b : Bool) → is_number f ≡ b → number_if b from f ≡ Some (v, next) → NumberReads f from v next
+    go true e h = let p = same_parts h in record { good = e; value = sym p.0; place = sym p.1 }
+    go false e h = absurd (cc)
 
-    go : (b : Bool) → is_number f ≡ b → number_if b from f ≡ value_read v next → NumberReads f from v next
-    go true e h = record { good = e; value = sym (ap (at 0) h); place = sym (ap (at 1) h) }
-    go false e h = absurd (omega (arith, ap (λ (x : ℕ × List ℕ). x.0) h))
-
-pub number_bad : (from : ℕ) (f : List ℕ) → number_in from f ≡ no_value → is_number f ≡ false
+pub number_bad : (from : ℕ) (f : List ℕ) → number_in from f ≡ None → is_number f ≡ false
 unfolding number_in
 number_bad from f h = go (is_number f) refl h
   where
-    go : (b : Bool) → is_number f ≡ b → number_if b from f ≡ no_value → b ≡ false
-    go true e h = absurd (omega (arith, ap (λ (x : ℕ × List ℕ). x.0) h))
+    go : (b : Bool) → is_number f ≡ b → number_if b from f ≡ None → b ≡ false
+    go true e h = absurd (cc)
     go false e h = refl
 
 -- the rest of a line that begins with a tab
@@ -104,7 +101,7 @@ formed_other (b ∷ s) (suc i) h k = formed_other s i h k
 formed_other (b ∷ s) zero h k = rw (ne_eqb b 10 k, ne_eqb b 9 h, fields_parts s)
 
 -- the row of a text that lacks the form
-pub row_refused : (word : List ℕ) (from : ℕ) (t : List ℕ) → well_formed word t ≡ false → no_row ≡ row_in word from t
+pub row_refused : (word : List ℕ) (from : ℕ) (t : List ℕ) → well_formed word t ≡ false → None ≡ row_in word from t
 unfolding row_in
 row_refused word from t h = rw h
 
@@ -117,26 +114,23 @@ pub record NumbersSoFar (s : List ℕ) (from i k : ℕ) (ns : List ℕ) : Type 0
   pub size : from + length (line (drop from s)) ≡ i + length (line (drop i s))
   pub slow : k ≤ i
 
-pub numbers_start : (s : List ℕ) (from : ℕ) → NumbersSoFar s from from 0 (replicate most_numbers 0)
-numbers_start s from = record { form = refl; few = omega arith; kept = refl; long = refl; size = refl; slow = zero-le }
-
 -- the reading at its next number, which stands after a tab and whose reading says x
-pub record NextNumber (s : List ℕ) (from i k : ℕ) (ns : List ℕ) (x : ℕ × List ℕ) : Type 0 where
+pub record NextNumber (s : List ℕ) (from i k : ℕ) (ns : List ℕ) (x : Option (ℕ × ℕ)) : Type 0 where
   pub so_far : NumbersSoFar s from i k ns
   pub tab_is : slice_index_or s i 0 ≡ 9
   pub says : x ≡ number_in (i + 1) (first (drop (i + 1) s))
 
-module _ {s : List ℕ} {from i k : ℕ} {ns : List ℕ} {x : ℕ × List ℕ} (a : NextNumber s from i k ns x) where
+module _ {s : List ℕ} {from i k : ℕ} {ns : List ℕ} {x : Option (ℕ × ℕ)} (a : NextNumber s from i k ns x) where
   tabbed_here : drop i s ≡ 9 ∷ drop (i + 1) s
   tabbed_here = (drop_byte s i 9 a.tab_is (omega arith)).1
 
-  pub numbers_refused : x ≡ no_value → no_row ≡ row_in [] from (drop from s)
+  pub numbers_refused : x ≡ None → None ≡ row_in [] from (drop from s)
   numbers_refused h =
       row_refused [] from (drop from s)
       (a.so_far.form ∙ ap (well_formed []) tabbed_here ∙ formed_tab (drop (i + 1) s)
       ∙ rw (number_bad (i + 1) (first (drop (i + 1) s)) (sym a.says ∙ h)))
 
-  numbers_more : (v next : ℕ) → x ≡ value_read v next → NumbersSoFar s from next (k + 1) (slice_set ns k v)
+  numbers_more : (v next : ℕ) → x ≡ Some (v, next) → NumbersSoFar s from next (k + 1) (slice_set ns k v)
   unfolding line
   numbers_more v next h = go (number_value_law (i + 1) (first t) v next (sym a.says ∙ h)) (past_first t)
     where
@@ -165,7 +159,7 @@ module _ {s : List ℕ} {from i k : ℕ} {ns : List ℕ} {x : ℕ × List ℕ} (
           }
 
   -- the array takes the number where it has room for it
-  pub numbers_next : (v next : ℕ) (out : List ℕ) → slice_set ns k v ≡ out → x ≡ value_read v next → NumbersSoFar s from next (k + 1) out
+  pub numbers_next : (v next : ℕ) (out : List ℕ) → slice_set ns k v ≡ out → x ≡ Some (v, next) → NumbersSoFar s from next (k + 1) out
   numbers_next v next out q h = subst (λ (l : List ℕ). NumbersSoFar s from next (k + 1) l) q (numbers_more v next h)
 
   pub numbers_full : (v : ℕ) (out : List ℕ) → most_numbers ≤ k → out ≡ ns → slice_set ns k v ≡ out
@@ -175,16 +169,12 @@ module _ {s : List ℕ} {from i k : ℕ} {ns : List ℕ} {x : ℕ × List ℕ} (
   pub numbers_within : i < length s
   numbers_within = (drop_byte s i 9 a.tab_is (omega arith)).0
 
-  pub numbers_on : (v next : ℕ) → x ≡ value_read v next → i < next
+  pub numbers_on : (v next : ℕ) → x ≡ Some (v, next) → i < next
   numbers_on v next h = omega (arith, (number_value_law (i + 1) (first (drop (i + 1) s)) v next (sym a.says ∙ h)).place)
 
 module _ (s : List ℕ) (from i k : ℕ) (ns : List ℕ) (inv : NumbersSoFar s from i k ns) where
-  -- a byte that is not 0 stands within the text
-  pub numbers_inside : (b : ℕ) → slice_index s i ≡ b → 0 < b → i < length s
-  numbers_inside b e h = (drop_byte s i b e h).0
-
   -- an LF, and any other byte
-  pub numbers_ended : slice_index_or s i 0 ≡ 10 → record { formed = true; count = k; numbers = ns; next = i + 1 } ≡ row_in [] from (drop from s)
+  pub numbers_ended : slice_index_or s i 0 ≡ 10 → Some record { count = k; numbers = ns; next = i + 1 } ≡ row_in [] from (drop from s)
   unfolding row_in line
   numbers_ended e =
       let d = (drop_byte s i 10 e (omega arith)).1 in
@@ -197,7 +187,7 @@ module _ (s : List ℕ) (from i k : ℕ) (ns : List ℕ) (inv : NumbersSoFar s f
       let z : i + 1 ≡ from + length (line (drop from s)) = omega (arith, inv.size) in
       rw (f, ← k', ← m, ← z)
 
-  pub numbers_other : (slice_index s i ≢ 9) → (slice_index s i ≢ 10) → no_row ≡ row_in [] from (drop from s)
+  pub numbers_other : (slice_index s i ≢ 9) → (slice_index s i ≢ 10) → None ≡ row_in [] from (drop from s)
   numbers_other h g = row_refused [] from (drop from s) (inv.form ∙ formed_other s i h g)
 
 -- a byte of a field, and this one
@@ -213,6 +203,10 @@ begins c (b ∷ t) = is_byte b c
 unfoldable pub starts : List ℕ → List ℕ → Bool
 starts [] t = true
 starts (c ∷ w) t = begins c t && starts w (drop 1 t)
+
+-- the place behind a word, if the text begins with it
+unfoldable pub word_in : List ℕ → ℕ → List ℕ → Option ℕ
+word_in w from t = cond (starts w t) (Some (from + length w)) None
 
 -- a word's first byte
 pub formed_byte : (c : ℕ) (w t : List ℕ) → well_formed (c ∷ w) t ≡ (begins c t && well_formed w (drop 1 t))
@@ -294,7 +288,7 @@ row_word w from t h =
     go true y e n z = rw (e, n, z)
     go false y e n z = rw e
 
-pub row_wordless : (w : List ℕ) (from : ℕ) (t : List ℕ) → starts w t ≡ false → no_row ≡ row_in w from t
+pub row_wordless : (w : List ℕ) (from : ℕ) (t : List ℕ) → starts w t ≡ false → None ≡ row_in w from t
 row_wordless w from t h = row_refused w from t (formed_word w t ∙ rw h)
 
 -- a byte that a text begins with
@@ -320,9 +314,6 @@ pub record Spelling (s w : List ℕ) (from i at : ℕ) : Type 0 where
   pub place : at ≡ from + i
   pub short : i ≤ length w
 
-pub spelling_start : (s w : List ℕ) (from : ℕ) → Spelling s w from 0 from
-spelling_start s w from = record { left = refl; place = omega arith; short = zero-le }
-
 module _ (s w : List ℕ) (from i at : ℕ) (inv : Spelling s w from i at) where
   pub spelled : i < length w → starts w (drop from s) ≡ (begins (slice_index w i) (drop at s) && starts (drop (suc i) w) (drop 1 (drop at s)))
   unfolding starts
@@ -336,14 +327,39 @@ module _ (s w : List ℕ) (from i at : ℕ) (inv : Spelling s w from i at) where
         short = omega arith;
       }
 
-  pub spelling_row : length w ≤ i → row_in [] at (drop at s) ≡ row_in w from (drop from s)
-  unfolding starts
-  spelling_row h =
+  pub spelling_end : length w ≤ i → Some at ≡ word_in w from (drop from s)
+  unfolding word_in starts
+  spelling_end h =
       let z : at ≡ from + length w = omega (arith, inv.place, inv.short) in
-      rw (z, ← (drop-drop (length w) from s)) (row_word w from (drop from s) (inv.left ∙ rw (drop_of_length-le w h)))
+      rw (inv.left, drop_of_length-le w h, z)
 
   pub spelling_inside : begins (slice_index w i) (drop at s) ≡ true → at < length s
   spelling_inside h = begins_inside s (slice_index w i) at h
 
-  pub spelling_refused : i < length w → begins (slice_index w i) (drop at s) ≡ false → no_row ≡ row_in w from (drop from s)
-  spelling_refused h b = row_wordless w from (drop from s) (spelled h ∙ rw b)
+  pub spelling_other : i < length w → begins (slice_index w i) (drop at s) ≡ false → None ≡ word_in w from (drop from s)
+  unfolding word_in
+  spelling_other h b = rw (spelled h, b)
+
+-- where the word stands, the line is one of numbers from its end on; and where it does not
+pub word_stands : (w : List ℕ) (from at : ℕ) (t : List ℕ) → Some at ≡ word_in w from t → (starts w t ≡ true) × (at ≡ from + length w)
+unfolding word_in
+word_stands w from at t h = go (starts w t) h
+  where
+    go : (b : Bool) → Some at ≡ cond b (Some (from + length w)) None → (b ≡ true) × (at ≡ from + length w)
+    go true e = (refl, (cc))
+    go false e = absurd (cc)
+
+pub word_lacks : (w : List ℕ) (from : ℕ) (t : List ℕ) → None ≡ word_in w from t → starts w t ≡ false
+unfolding word_in
+word_lacks w from t h = go (starts w t) h
+  where
+    go : (b : Bool) → None ≡ cond b (Some (from + length w)) None → b ≡ false
+    go true e = absurd (cc)
+    go false e = refl
+
+pub word_row : (s w : List ℕ) (from at : ℕ) → Some at ≡ word_in w from (drop from s) → row_in [] at (drop at s) ≡ row_in w from (drop from s)
+word_row s w from at h =
+    let p = word_stands w from at (drop from s) h in rw (p.1, ← (drop-drop (length w) from s)) (row_word w from (drop from s) p.0)
+
+pub no_word_row : (s w : List ℕ) (from : ℕ) → None ≡ word_in w from (drop from s) → None ≡ row_in w from (drop from s)
+no_word_row s w from h = row_wordless w from (drop from s) (word_lacks w from (drop from s) h)

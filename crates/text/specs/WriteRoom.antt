@@ -1,5 +1,5 @@
 -- What is written of a text, by the buffer's room alone.
-use Rattle.std.specs.Prelude.{◌≡◌, ℕ, ◌+◌, ◌-◌, ◌≤◌, min, Bool, true, false, cond, List, ◌++◌, length, drop, nat_le, nat_lt}
+use Rattle.std.specs.Prelude.{◌≡◌, ℕ, ◌-◌, ◌≤◌, min, Bool, true, false, cond, List, ◌++◌, length, drop, nat_le, nat_lt}
 use Rattle.std.proofs.Common.{sym, ◌∙◌, zero-add, le_refl, arith}
 use Rattle.std.proofs.Math.Path.{ap}
 use Rattle.std.proofs.Math.Seq.{sets, sets-eq}
@@ -52,8 +52,3 @@ module _ (t buffer m : List ℕ) (q : m ≡ buffer) (b : Bool) (k : b ≡ nat_le
 pub length_found : (o t out : List ℕ) (r : ℕ) → Put o (length o) t out r → length o ≤ last_place
     → (out ≡ o) × (r - length o ≡ min (length t) (last_place - length o))
 length_found o t out r p h = (p.stored ∙ sets_out t o (length o) (le_refl (length o)), omega (arith, p.place))
-
--- a measured text that is short enough fits where its measure does
-pub room_measured : (o m : List ℕ) (n t : ℕ) → m ≡ o → n ≡ min t (last_place - length o) → t + length o ≤ last_place
-    → nat_le n (length m) ≡ nat_le t (length o)
-room_measured o m n t q e h = let z : n ≡ t = omega arith in rw (z, q)

@@ -3,7 +3,7 @@ ghost use Rattle.std.specs.Prelude.{◌≡◌, ◌+◌, ◌<◌, ◌≤◌, leng
 ghost use Rattle.document.specs.Text.{decimal};
 ghost use Rattle.std.proofs.lemmas.List.Edits.{sets};
 
-// One byte at a place, where the buffer has it.
+// One byte at a place, where the buffer has it. Kept: a test of the place, since with `get_mut` the proof stays open.
 pub fn put_at(out: &mut [u8], at: usize, b: u8)
     ensures { out.new ≡ slice_set out.old at b }
 {
@@ -17,6 +17,7 @@ pub fn width_to_five(v: u32) -> usize
     requires { v < 100000 }
     ensures { (result ≡ length (decimal v)) × (result ≤ 5) }
 {
+    // Kept: comparisons, of which the edit width_off_by_one makes one wrong; a logarithm would need a case for 0 besides.
     if v < 10 {
         return 1;
     }
@@ -61,6 +62,7 @@ pub fn put_digits(out: &mut [u8], at: usize, v: u32) -> usize
     let end = at + digits;
     let mut n = v;
     let mut i = end;
+    // Kept: a while loop, since the number itself says how often it is divided.
     while 10 <= n {
         i -= 1;
         put_at(out, i, digit(n % 10));

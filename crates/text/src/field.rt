@@ -1,5 +1,6 @@
 // The field that a refusal of a line names. A line's fields are what one tab parts, up to its LF or the text's end; they are counted from 1, and 0
-// names none. Only a line that is refused is gone over again, from its place.
+// names none. Only a line that is refused is gone over again, from its place, by functions that are kept out of the quick loop.
+// Kept: 0 for none, and no `Option`, since the definitions `bad_field` and `field_of` count fields so, and C is answered the same.
 ghost use Rattle.std.specs.Prelude.{◌≡◌, ◌≤◌, [], drop};
 ghost use Rattle.model.specs.Limits.{most_nodes};
 ghost use Rattle.document.specs.Text.{same};
@@ -7,9 +8,8 @@ ghost use Rattle.document.specs.BadField.{bad_field, breaks_first, breaks_flow, 
 ghost use Rattle.text.specs.Places.{first, more};
 ghost use Rattle.text.specs.RowFaults.{first_bad, row_repeat};
 
-use crate::line::{Row, begins, byte_at, look_at, number_at};
-use crate::reader::route_of;
-use model::{NumberRead, Refusal};
+use crate::line::{Row, after_word, byte_at, look_at, number_at};
+use model::Refusal;
 
 // Where a flow line has its tries.
 const TRIES_FIELD: usize = 5;
@@ -21,17 +21,10 @@ const NODES_FIELD: usize = 6;
 fn is_word(s: &[u8], from: usize, word: &[u8]) -> bool
     ensures { result ≡ same (first (drop from s.now)) word.now }
 {
-    let mut at = from;
-    let mut i = 0;
-    while i < word.len() {
-        if begins(s, at, word[i]) {
-            at += 1;
-            i += 1;
-        } else {
-            return false;
-        }
+    match after_word(s, from, word) {
+        Some(at) => look_at(s, at) == 10,
+        None => false,
     }
-    look_at(s, at) == 10
 }
 
 // The first field that is no number, from the second on, where the first ends at this place; 0 where all are numbers, however many.
@@ -41,9 +34,10 @@ fn bad_number(s: &[u8], from: usize) -> usize
 {
     let mut field = 1usize;
     let mut i = from;
+    // Kept: a while loop, since each number says where the next one begins.
     while byte_at(s, i) == 9 {
         field += 1;
-        let NumberRead::Value(_, next) = number_at(s, i + 1) else {
+        let Some((_, next)) = number_at(s, i + 1) else {
             return field;
         };
         i = next;
@@ -70,7 +64,7 @@ fn bad_map(s: &[u8], from: usize) -> usize
     if byte_at(s, from) != 9 {
         return 0;
     }
-    let NumberRead::Value(_, next) = number_at(s, from + 1) else {
+    let Some((_, next)) = number_at(s, from + 1) else {
         return 2;
     };
     match byte_at(s, next) {
@@ -92,15 +86,14 @@ fn first_bad(s: &[u8]) -> usize
     1
 }
 
-// The place of the first node of a row that equals the one just before it.
-fn repeat_in(row: Row) -> usize
+// The place of the first node of a row that equals the one just before it; 0 where there is no row.
+fn repeat_in(row: Option<Row>) -> usize
     ensures { (result ≡ row_repeat row) × (result ≤ most_nodes) }
 {
-    if row.count < 4 {
-        return 0;
+    match row {
+        Some(row) if 4 <= row.count => rules::repeat_at(row.route(), row.count - 4),
+        _ => 0,
     }
-    let numbers = row.numbers;
-    rules::repeat_at(route_of(numbers), row.count - 4)
 }
 
 // The field of each refusal, from the first field that breaks the form and the place of the first node that equals the one just before it.
@@ -121,6 +114,8 @@ fn field_of(refusal: Refusal, bad: usize, equal: usize) -> usize
 }
 
 // The field of the first line's refusal.
+#[cold]
+#[inline(never)]
 pub fn first_field(s: &[u8], refusal: Refusal) -> usize
     ensures { result ≡ field_of refusal (first_bad s.now) 0 }
 {
@@ -128,7 +123,9 @@ pub fn first_field(s: &[u8], refusal: Refusal) -> usize
 }
 
 // The field of the refusal of the flow line at a place.
-pub fn flow_field(s: &[u8], at: usize, refusal: Refusal, row: Row) -> usize
+#[cold]
+#[inline(never)]
+pub fn flow_field(s: &[u8], at: usize, refusal: Refusal, row: Option<Row>) -> usize
     ensures { result ≡ field_of refusal (bad_field breaks_flow (drop at s.now)) (row_repeat row) }
 {
     field_of(refusal, flow_bad(s, at), repeat_in(row))

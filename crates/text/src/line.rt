@@ -2,56 +2,50 @@
 // rules. First a byte of a number and the answer to its digits, then the number at a place of a text, then the line.
 ghost use Rattle.std.specs.Prelude.{◌≡◌, ◌≤◌, [], drop, slice_index};
 ghost use Rattle.text.specs.Places.{first, look_at, look_byte};
+ghost use Rattle.text.specs.NumberAnswers.{number_in, number_of, said_of};
 ghost use Rattle.model.specs.Refusals.{number_says};
-ghost use Rattle.text.specs.NumberAnswers.{number_in, number_of};
-ghost use Rattle.text.specs.Row.{no_row, row_in};
-ghost use Rattle.text.specs.Rows.{begins, is_byte};
+ghost use Rattle.text.specs.Row.{row_in};
+ghost use Rattle.text.specs.RowFaults.{nodes_of};
+ghost use Rattle.text.specs.Rows.{begins, is_byte, word_in};
 
-use model::{Flow, NumberRead};
+use model::Flow;
 
 // A digit by its value, a tab or an LF by 10, any other byte by 11.
+// Kept: numbers for the kinds of byte, so that `d < 10` alone goes on with a number; an enum's digit would be taken out of it each time.
+#[tactic(auto, using(std::proofs::lemmas::Bool::Decides::nat_tests), unfolding(crate::specs::Places::look_byte))]
 fn look_byte(b: u8) -> u32
     ensures { (result ≡ look_byte b) × (result ≤ 11) }
 {
-    if b < 48 {
-        if b == 9 {
-            return 10;
-        }
-        if b == 10 {
-            return 10;
-        }
-        return 11;
+    if b.is_ascii_digit() {
+        return u32::from(b - b'0');
     }
-    if 57 < b {
-        return 11;
-    }
-    (b - 48) as u32
+    if b == b'\t' || b == b'\n' { 10 } else { 11 }
 }
 
 // The answer to digits from one place to another that have this value: none is no number, and a leading zero stands alone.
-fn number_of(lead: u8, from: usize, end: usize, v: u16) -> NumberRead
-    ensures { number_says result ≡ number_of lead from end v }
+fn number_of(lead: u8, from: usize, end: usize, v: u16) -> Option<(u16, usize)>
+    ensures { result ≡ number_of lead from end v }
 {
     if end <= from {
-        return NumberRead::Refused;
+        return None;
     }
     if end - from == 1 {
-        return NumberRead::Value(v, end);
+        return Some((v, end));
     }
     if lead == 48 {
-        return NumberRead::Refused;
+        return None;
     }
-    NumberRead::Value(v, end)
+    Some((v, end))
 }
 
 // The byte at a place, 0 beyond the end.
 pub fn byte_at(s: &[u8], at: usize) -> u8
     ensures { result ≡ slice_index s.now at }
 {
-    if at < s.len() { s[at] } else { 0 }
+    s.get(at).copied().unwrap_or(0)
 }
 
-// How the byte at a place goes on with a number; the text's end ends it.
+// How the byte at a place goes on with a number; the text's end ends it. Kept: a test of the place, since with `get` and a closure the proof stays open.
 pub fn look_at(s: &[u8], at: usize) -> u32
     ensures { (result ≡ look_at (drop at s.now)) × (result ≤ 11) }
 {
@@ -62,34 +56,38 @@ pub fn look_at(s: &[u8], at: usize) -> u32
 const MOST_DIGITS: usize = 5;
 
 // The number at a place: decimal, without sign or leading zero, at most 65,535, ended by a tab, an LF or the text's end. Its digits are counted as
-// they come and its value is tested once, behind them: that is quicker than a test of the value at each digit.
-pub fn number_at(s: &[u8], from: usize) -> NumberRead
-    ensures { number_says result ≡ number_in from (first (drop from s.now)) }
+// they come and its value is tested once, behind them: that is quicker than a test of the value at each digit. It stands in each loop that calls
+// it, which takes an eighth less time.
+#[inline(always)]
+pub fn number_at(s: &[u8], from: usize) -> Option<(u16, usize)>
+    ensures answer { result ≡ number_in from (first (drop from s.now)) }
+    ensures says { number_says result ≡ said_of from (first (drop from s.now)) }
 {
     let mut i = from;
     let mut v: u32 = 0;
     let mut d = look_at(s, i);
+    // Kept: a while loop, since the bytes say where the number ends, and that place is answered.
     while d < 10 {
         if MOST_DIGITS <= i - from {
-            return NumberRead::Refused;
+            return None;
         }
         v = v * 10 + d;
         i += 1;
         d = look_at(s, i);
     }
     if d == 11 {
-        return NumberRead::Refused;
+        return None;
     }
     if 65535 < v {
-        return NumberRead::Refused;
+        return None;
     }
     number_of(byte_at(s, from), from, i, v as u16)
 }
 
-// A line's answer: whether it has the form, how many numbers, the first of them, and the place of the next line.
+// A line of the form: how many numbers, the first of them, and the place of the next line. Kept: a count beside the numbers, since further numbers are
+// counted and not kept.
 #[derive(Clone, Copy)]
 pub struct Row {
-    pub formed: bool,
     pub count: usize,
     pub numbers: [u16; Row::MOST],
     pub next: usize,
@@ -99,85 +97,77 @@ impl Row {
     // A flow's line has four numbers and then its nodes. Further numbers are counted and not kept.
     pub const MOST: usize = 4 + Flow::MOST_NODES;
 
-    // The answer to a line that lacks the form.
-    pub fn none() -> Row
-        ensures { result ≡ no_row }
+    // The nodes among a flow line's numbers.
+    pub fn route(&self) -> [u16; Flow::MOST_NODES]
+        ensures { result ≡ nodes_of self.now.numbers }
     {
-        Row {
-            formed: false,
-            count: 0,
-            numbers: [0; Row::MOST],
-            next: 0,
-        }
+        let mut route = [0u16; Flow::MOST_NODES];
+        route.copy_from_slice(&self.numbers[4..]);
+        route
     }
 }
 
 // The rest of a line from a place on: numbers, each after a tab, and the LF. A bad number ends it at once; any other fault is
 // found at its end.
-fn numbers_at(s: &[u8], from: usize) -> Row
+fn numbers_at(s: &[u8], from: usize) -> Option<Row>
     ensures { result ≡ row_in [] from (drop from s.now) }
 {
     let mut numbers = [0u16; Row::MOST];
-    let mut k = 0usize;
+    let mut count = 0usize;
     let mut i = from;
+    // Kept: a while loop, since each number says where the next one begins.
     while byte_at(s, i) == 9 {
-        let NumberRead::Value(v, next) = number_at(s, i + 1) else {
-            return Row::none();
+        let Some((v, next)) = number_at(s, i + 1) else {
+            return None;
         };
-        if k < Row::MOST {
-            numbers[k] = v;
+        if count < Row::MOST {
+            numbers[count] = v;
         }
-        k += 1;
+        count += 1;
         i = next;
     }
     if byte_at(s, i) == 10 {
-        return Row {
-            formed: true,
-            count: k,
+        return Some(Row {
+            count,
             numbers,
             next: i + 1,
-        };
+        });
     }
-    Row::none()
+    None
 }
 
-// Whether byte b is byte c of a word: a tab or an LF is of no word.
+// Whether byte b is byte c of a word: a tab or an LF is of no word. Kept: no `starts_with`, which would find them in a word that has them.
 fn is_byte(b: u8, c: u8) -> bool
     ensures { result ≡ is_byte b c }
 {
-    if b == 10 {
-        return false;
-    }
-    if b == 9 {
-        return false;
-    }
-    b == c
+    b != 10 && b != 9 && b == c
 }
 
 // Whether byte c of a word stands at a place.
 pub fn begins(s: &[u8], at: usize, c: u8) -> bool
     ensures { result ≡ begins c (drop at s.now) }
 {
-    if at < s.len() {
-        is_byte(s[at], c)
-    } else {
-        false
+    at < s.len() && is_byte(s[at], c)
+}
+
+// The place behind a word, if it stands at this one. It stands in its callers, since a call for each line costs.
+#[inline(always)]
+pub fn after_word(s: &[u8], from: usize, word: &[u8]) -> Option<usize>
+    ensures { result ≡ word_in word.now from (drop from s.now) }
+{
+    let mut at = from;
+    for c in word {
+        if !begins(s, at, *c) {
+            return None;
+        }
+        at += 1;
     }
+    Some(at)
 }
 
 // The line at a place: this word, then numbers, each after a tab, and the LF.
-pub fn line_at(s: &[u8], from: usize, word: &[u8]) -> Row
+pub fn line_at(s: &[u8], from: usize, word: &[u8]) -> Option<Row>
     ensures { result ≡ row_in word.now from (drop from s.now) }
 {
-    let mut at = from;
-    let mut i = 0;
-    while i < word.len() {
-        if begins(s, at, word[i]) {
-            at += 1;
-            i += 1;
-        } else {
-            return Row::none();
-        }
-    }
-    numbers_at(s, at)
+    numbers_at(s, after_word(s, from, word)?)
 }

@@ -14,15 +14,11 @@ use model::{ChannelMap, Send};
 fn advance(at: usize, n: usize) -> usize
     ensures { result ≡ min (at + n) last_place }
 {
-    let room = 18446744073709551615 - at;
-    if n <= room {
-        at + n
-    } else {
-        18446744073709551615
-    }
+    at.saturating_add(n)
 }
 
 // One byte.
+// Kept: a buffer and a place as two parameters, since other crates call `put_byte`, `put_line`, `put_row` and their kin so, with these clauses.
 pub fn put_byte(out: &mut [u8], at: usize, b: u8) -> usize
     ensures { Put out.old at (b ∷ []) out.new result }
 {
@@ -38,15 +34,13 @@ pub fn put_number(out: &mut [u8], at: usize, v: u32) -> usize
     advance(at, n)
 }
 
-// A word.
+// A word. Kept: a loop here and wherever things are put one after the other, and no `fold`: a closure that captures the buffer says nothing of it afterwards.
 pub fn put_word(out: &mut [u8], at: usize, word: &[u8]) -> usize
     ensures { Put out.old at word.now out.new result }
 {
     let mut place = at;
-    let mut i = 0;
-    while i < word.len() {
-        place = put_byte(out, place, word[i]);
-        i += 1;
+    for b in word {
+        place = put_byte(out, place, *b);
     }
     place
 }
@@ -64,10 +58,8 @@ pub fn put_fields(out: &mut [u8], at: usize, numbers: &[u32]) -> usize
     ensures { Put out.old at (fields_of numbers.now) out.new result }
 {
     let mut place = at;
-    let mut i = 0;
-    while i < numbers.len() {
-        place = put_field(out, place, numbers[i]);
-        i += 1;
+    for v in numbers {
+        place = put_field(out, place, *v);
     }
     place
 }
@@ -104,29 +96,14 @@ fn put_send(out: &mut [u8], at: usize, x: Send) -> usize
     put_line(out, at, b"send", &numbers)
 }
 
-// How many sends there are: none beyond the array.
-fn count_of_sends(n: u16) -> usize
-    ensures { (result ≡ min n most_channels) × (result ≤ most_channels) }
-{
-    let m = n as usize;
-    if m <= ChannelMap::MOST {
-        m
-    } else {
-        ChannelMap::MOST
-    }
-}
-
-// The lines of the first n sends.
+// The lines of the first n sends. Kept: an array and a count, as a slot's answer has them, with the contract that callers know.
 pub fn put_sends(out: &mut [u8], at: usize, sent: [Send; ChannelMap::MOST], n: u16) -> usize
     ensures { Put out.old at (send_lines (take n sent)) out.new result }
 {
-    let m = count_of_sends(n);
+    let m = (n as usize).min(ChannelMap::MOST);
     let mut place = at;
-    let mut i: usize = 0;
-    while i < m {
-        let x = sent[i];
-        place = put_send(out, place, x);
-        i += 1;
+    for x in &sent[..m] {
+        place = put_send(out, place, *x);
     }
     place
 }

@@ -1,138 +1,107 @@
 // The reader: line by line, the first faulty line decides, and within it the lowest of 1 to 9. A line is judged by its row of numbers, its form
 // first, then its rules: rule 2 of the first line, rules 3 to 9 of a flow line, which then gives its flow.
 ghost use Rattle.std.specs.Prelude.{◌≡◌, ◌+◌, ◌≤◌, drop};
-ghost use Rattle.text.specs.RowFaults.{reading_of, first_row_fault, flow_of_row, flow_row_fault, flow_with, nodes_of, set_with};
-ghost use Rattle.document.specs.Text.{flow_word, lines, set_word};
+ghost use Rattle.text.specs.RowFaults.{first_read, flow_of_row, flow_read, flow_row_fault, row_or, set_with};
+ghost use Rattle.document.specs.Text.{lines, set_word};
 ghost use Rattle.text.specs.Row.{row_in};
 ghost use Rattle.document.specs.Reader.{read_flows, read_text};
 ghost use Rattle.document.specs.FieldNamed.{ReaderNames};
 ghost use Rattle.model.specs.Limits.{most_flows};
+ghost use Rattle.model.specs.Refusals.{good};
 
 use crate::line::Row;
 use crate::{field, line};
 use model::{ChannelMap, Fault, Flow, FlowSet, Reading, Refusal, Span};
 
-// The nodes among a flow line's numbers.
-pub fn route_of(numbers: [u16; Row::MOST]) -> [u16; Flow::MOST_NODES]
-    ensures { result ≡ nodes_of numbers }
+// The row of the line of flow number k, if neither its form nor rules 3 to 9 refuse it.
+fn flow_row(k: usize, row: Option<Row>) -> Result<Row, Refusal>
+    ensures { result ≡ row_or (good (flow_row_fault k row)) (flow_row_fault k row) row }
 {
-    let mut route = [0u16; Flow::MOST_NODES];
-    let mut i = 0usize;
-    while i < Flow::MOST_NODES {
-        route[i] = numbers[4 + i];
-        i += 1;
+    let row = row.ok_or(Refusal::BadForm)?;
+    if row.count < 4 {
+        return Err(Refusal::BadForm);
     }
-    route
+    let [period, deadline, _, tries, ..] = row.numbers;
+    rules::flow_fault(k, period, deadline, tries, row.count - 4, row.route())?;
+    Ok(row)
 }
 
-// The refusal of the line of flow number k: its form, then rules 3 to 9.
-fn flow_fault(k: usize, row: Row) -> Refusal
-    ensures { result ≡ flow_row_fault k row }
-{
-    if row.formed {
-        if 4 <= row.count {
-            let numbers = row.numbers;
-            let route = route_of(numbers);
-            return rules::flow_fault(k, numbers[0], numbers[1], numbers[3], row.count - 4, route);
-        }
-    }
-    Refusal::BadForm
-}
-
-// The flow that a flow line's numbers make, with this number of nodes.
-fn flow_with(numbers: [u16; Row::MOST], nodes: u16) -> Flow
-    ensures { result ≡ flow_with numbers nodes }
-{
-    let route = route_of(numbers);
-    Flow {
-        period: Span(numbers[0]),
-        deadline: Span(numbers[1]),
-        start: numbers[2],
-        tries: numbers[3],
-        nodes,
-        route,
-    }
-}
-
-// The first line's refusal: its form, then rule 2.
-fn first_fault(row: Row) -> Refusal
-    ensures { result ≡ first_row_fault row }
-{
-    if row.formed {
-        if row.count == 1 {
-            return rules::map_fault(row.numbers[0]);
-        }
-    }
-    Refusal::BadForm
-}
-
-// The reader's answer of these parts; a refusal comes with the blank set.
-fn reading_of(refusal: Refusal, line: usize, field: usize, set: FlowSet) -> Reading
-    ensures { result ≡ reading_of refusal line field set }
-{
-    let fault = Fault {
-        refusal,
-        line,
-        field,
-    };
-    Reading { fault, set }
-}
-
-// The number of the line of flow number k.
-fn line_number_of(k: usize) -> usize
+// The same of the line at a place, a refusal with its line and its bad field.
+fn flow_line(text: &[u8], at: usize, k: usize) -> Result<Row, Fault>
     requires { k ≤ most_flows }
-    ensures { result ≡ k + 2 }
+    ensures { result ≡ flow_read k at (drop at text.now) }
 {
-    k + 2
+    let row = line::line_at(text, at, b"flow");
+    // Kept: a match, since with map_err and a closure the longest text takes 3 of a hundred instructions more and 7 of a hundred of the time.
+    match flow_row(k, row) {
+        Ok(row) => Ok(row),
+        Err(refusal) => Err(Fault {
+            refusal,
+            line: k + 2,
+            field: field::flow_field(text, at, refusal, row),
+        }),
+    }
 }
 
-// The flow of a line that has been judged.
-fn flow_of(row: Row) -> Flow
-    requires { (4 ≤ row.count) × (row.count ≤ 21) }
-    ensures { result ≡ flow_of_row row }
+// The flow of a row that has been judged.
+fn flow_of(row: &Row) -> Flow
+    requires { (4 ≤ row.now.count) × (row.now.count ≤ 21) }
+    ensures { result ≡ flow_of_row row.now }
 {
-    let numbers = row.numbers;
-    flow_with(numbers, (row.count - 4) as u16)
+    let [period, deadline, start, tries, ..] = row.numbers;
+    Flow {
+        period: Span(period),
+        deadline: Span(deadline),
+        start,
+        tries,
+        nodes: (row.count - 4) as u16,
+        route: row.route(),
+    }
 }
 
-// The row of the flow line at a place.
-fn flow_row(text: &[u8], at: usize) -> Row
-    ensures { result ≡ row_in flow_word at (drop at text.now) }
-{
-    line::line_at(text, at, b"flow")
-}
-
-// The lines from a place on, each a flow of a set with this map.
+// The lines from a place on, each a flow of a set with this map; a refusal comes with the blank set.
 fn read_flows(text: &[u8], from: usize, map: u16) -> Reading
     ensures { result ≡ read_flows (set_with map) (lines (drop from text.now)) }
 {
-    let blank = FlowSet::blank();
-    let channels = ChannelMap::new(map);
-    let mut set = blank;
-    set.map = channels;
+    let mut set = FlowSet::blank();
+    set.map = ChannelMap::new(map);
     let mut at = from;
     let mut k = 0usize;
+    // Kept: a while loop, since each line says where the next one begins.
     while at < text.len() {
-        let row = flow_row(text, at);
-        let refusal = flow_fault(k, row);
-        if refusal.code() != 0 {
-            let field = field::flow_field(text, at, refusal, row);
-            return reading_of(refusal, line_number_of(k), field, blank);
-        }
-        let flow = flow_of(row);
-        set.flows[k] = flow;
+        let row = match flow_line(text, at, k) {
+            Ok(row) => row,
+            Err(fault) => {
+                let set = FlowSet::blank();
+                return Reading { fault, set };
+            }
+        };
+        set.flows[k] = flow_of(&row);
         k += 1;
         set.count = k as u16;
         at = row.next;
     }
-    reading_of(Refusal::Nothing, 0, 0, set)
+    let fault = Fault::none();
+    Reading { fault, set }
 }
 
 // The row of the first line.
-fn set_row(text: &[u8]) -> Row
+fn set_row(text: &[u8]) -> Option<Row>
     ensures { result ≡ row_in set_word 0 text.now }
 {
     line::line_at(text, 0, b"set")
+}
+
+// The same, if neither its form nor rule 2 refuses it.
+fn first_row(text: &[u8]) -> Result<Row, Refusal>
+    ensures { result ≡ first_read (row_in set_word 0 text.now) }
+{
+    let row = set_row(text).ok_or(Refusal::BadForm)?;
+    if row.count != 1 {
+        return Err(Refusal::BadForm);
+    }
+    rules::map_fault(row.numbers[0])?;
+    Ok(row)
 }
 
 // A text's set, or the first faulty line with its lowest refusal and its bad field, and the blank set.
@@ -140,11 +109,15 @@ pub fn read(text: &[u8]) -> Reading
     ensures value { result ≡ read_text text.now }
     ensures reader_names_is { ReaderNames text.now result.fault }
 {
-    let row = set_row(text);
-    let refusal = first_fault(row);
-    if refusal.code() != 0 {
-        let field = field::first_field(text, refusal);
-        return reading_of(refusal, 1, field, FlowSet::blank());
+    match first_row(text) {
+        Ok(row) => read_flows(text, row.next, row.numbers[0]),
+        Err(refusal) => Reading {
+            fault: Fault {
+                refusal,
+                line: 1,
+                field: field::first_field(text, refusal),
+            },
+            set: FlowSet::blank(),
+        },
     }
-    read_flows(text, row.next, row.numbers[0])
 }

@@ -1,14 +1,12 @@
 // A table's lines: the room is measured first, then the lines are written and nothing else. A row is four numbers of the lent table; up to three
 // numbers left over don't count.
-ghost use Rattle.std.specs.Prelude.{◌≡◌, ◌+◌, ◌*◌, ◌≤◌, [], ◌∷◌, length, nat_le};
-ghost use Rattle.document.specs.Text.{decimal};
+ghost use Rattle.std.specs.Prelude.{◌≡◌, ◌≤◌, [], ◌∷◌, length, nat_le};
 ghost use Rattle.document.specs.Superframe.{row_line, row_lines, rows_of, write_table_answer, write_table_into};
 ghost use Rattle.text.specs.Put.{Put};
-ghost use Rattle.text.specs.WrittenRows.{row_at};
 
 use crate::digits::width_to_five;
 use crate::put::{put_byte, put_field, put_number};
-use model::{Fault, Refusal, Tabled, Written};
+use model::{Fault, Refusable, Refusal, Tabled, Written};
 
 // The line of a row: four numbers parted by tabs, and LF.
 pub fn put_row(out: &mut [u8], at: usize, slot: u32, flow: u32, number: u32, offset: u32) -> usize
@@ -21,74 +19,52 @@ pub fn put_row(out: &mut [u8], at: usize, slot: u32, flow: u32, number: u32, off
     put_byte(out, last, 10)
 }
 
-// A number of a lent table; it is a function because the prover knows the width of a parameter that is cast, and not that of an entry of a lent array.
-fn table_number(v: u16) -> u32
-    ensures { (result ≡ v) × (result ≤ 65535) }
+// The line of a table's row.
+fn put_row_of(out: &mut [u8], at: usize, row: &[u16; Tabled::ROW]) -> usize
+    ensures { Put out.old at (row_line row.now) out.new result }
 {
-    v as u32
-}
-
-// The line of row i of a table.
-fn put_row_of(out: &mut [u8], at: usize, table: &[u16], i: usize) -> usize
-    requires { 4 * i + 4 ≤ length table.now }
-    ensures { Put out.old at (row_line (row_at table.now i)) out.new result }
-{
-    let j = Tabled::ROW * i;
-    let slot = table_number(table[j]);
-    let flow = table_number(table[j + 1]);
-    let number = table_number(table[j + 2]);
-    let offset = table_number(table[j + 3]);
-    put_row(out, at, slot, flow, number, offset)
+    let [slot, flow, number, offset] = *row;
+    put_row(
+        out,
+        at,
+        u32::from(slot),
+        u32::from(flow),
+        u32::from(number),
+        u32::from(offset),
+    )
 }
 
 // The lines of a table's rows from the buffer's start on.
 fn put_rows(out: &mut [u8], table: &[u16]) -> usize
     ensures { Put out.old 0 (row_lines (rows_of table.now)) out.new result }
 {
-    let rows = table.len() / Tabled::ROW;
     let mut place = 0usize;
-    let mut i = 0usize;
-    while i < rows {
-        place = put_row_of(out, place, table, i);
-        i += 1;
+    for row in table.as_chunks().0 {
+        place = put_row_of(out, place, row);
     }
     place
 }
 
-// How many bytes a number of a table has.
-fn number_length(v: u16) -> usize
-    ensures { (result ≡ length (decimal v)) × (result ≤ 5) }
+// How many bytes the line of a row has.
+fn line_length(row: &[u16; Tabled::ROW]) -> usize
+    ensures { (result ≡ length (row_line row.now)) × (result ≤ 24) }
 {
-    width_to_five(v as u32)
-}
-
-// How many bytes the line of row i of a table has.
-fn line_length(table: &[u16], i: usize) -> usize
-    requires { 4 * i + 4 ≤ length table.now }
-    ensures { (result ≡ length (row_line (row_at table.now i))) × (result ≤ 24) }
-{
-    let j = Tabled::ROW * i;
-    let slot = number_length(table[j]);
-    let flow = number_length(table[j + 1]);
-    let number = number_length(table[j + 2]);
-    let offset = number_length(table[j + 3]);
-    slot + flow + number + offset + 4
+    let [slot, flow, number, offset] = *row;
+    let first = width_to_five(slot as u32) + width_to_five(flow as u32);
+    first + width_to_five(number as u32) + width_to_five(offset as u32) + 4
 }
 
 // Whether a table's lines have room. It ends at the line that has none: the lines of a huge table could be longer than any number.
 fn lines_fit(table: &[u16], room: usize) -> bool
     ensures { result ≡ nat_le (length (row_lines (rows_of table.now))) room }
 {
-    let rows = table.len() / Tabled::ROW;
     let mut left = room;
-    let mut i = 0usize;
-    while i < rows {
-        let n = line_length(table, i);
+    for row in table.as_chunks().0 {
+        let n = line_length(row);
         if left < n {
             return false;
         }
         left -= n;
-        i += 1;
     }
     true
 }

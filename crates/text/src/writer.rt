@@ -1,9 +1,8 @@
 // The writer: the record check first, then the buffer's room, then the text and nothing else. What holds of a set's text that is read and
 // written stands in specs/RoundTrip.antt and proofs/RoundTrip.antt.
-ghost use Rattle.std.specs.Prelude.{◌≡◌, ◌+◌, ◌-◌, ◌≤◌, min, true, length, nat_le};
+ghost use Rattle.std.specs.Prelude.{◌≡◌, ◌+◌, ◌-◌, ◌≤◌, min, true, length, map, take, nat_le};
 ghost use Rattle.document.specs.Reader.{ReadAgain, flow_lines, flow_numbers, record_fault, text_of, write_answer, write_into};
 ghost use Rattle.model.specs.Refusals.{good};
-ghost use Rattle.model.specs.Limits.{most_flows, most_nodes};
 ghost use Rattle.model.specs.Sets.{exact, used};
 ghost use Rattle.document.specs.Text.{flow_word, line_of};
 ghost use Rattle.text.specs.Put.{Put, last_place};
@@ -11,88 +10,66 @@ ghost use Rattle.text.specs.ReadThenWritten.{longest_text};
 ghost use Rattle.text.specs.WriteRoom.{room_answer, room_into};
 
 use crate::put;
-use model::{Fault, Flow, FlowSet, Refusal, Written};
+use model::{Fault, Flow, FlowSet, Refusable, Refusal, Written};
 
 // The bytes of the longest text of a set that passes the record check.
 const LONGEST: usize = 8138;
 
-pub type Numbers = [u32; 4 + Flow::MOST_NODES];
+type Numbers = [u32; 4 + Flow::MOST_NODES];
 
 // A flow's numbers in the order of its line, all the nodes of its array among them.
-pub fn flow_numbers(f: Flow) -> Numbers
-    ensures { result ≡ flow_numbers f }
+fn flow_numbers(f: &Flow) -> Numbers
+    ensures { result ≡ flow_numbers f.now }
 {
-    let route = f.route;
     let mut numbers = [0u32; 4 + Flow::MOST_NODES];
     numbers[0] = f.period.0 as u32;
     numbers[1] = f.deadline.0 as u32;
     numbers[2] = f.start as u32;
     numbers[3] = f.tries as u32;
-    let mut i = 0usize;
-    while i < Flow::MOST_NODES {
-        numbers[4 + i] = route[i] as u32;
-        i += 1;
+    for (i, node) in f.route.iter().enumerate() {
+        numbers[4 + i] = *node as u32;
     }
     numbers
 }
 
-// How many numbers a flow's line has: no node beyond the array.
-fn count_of_numbers(f: Flow) -> usize
-    ensures { (result ≡ 4 + min f.nodes most_nodes) × (result ≤ 21) }
+// A flow's line: its four numbers and its nodes, none beyond the array.
+fn put_flow(out: &mut [u8], at: usize, f: &Flow) -> usize
+    ensures { Put out.old at (line_of flow_word (flow_numbers (exact f.now))) out.new result }
 {
-    let n = f.nodes as usize;
-    if n <= Flow::MOST_NODES {
-        4 + n
-    } else {
-        4 + Flow::MOST_NODES
-    }
+    let nodes = (f.nodes as usize).min(Flow::MOST_NODES);
+    put::put_line(out, at, b"flow", &flow_numbers(f)[..4 + nodes])
 }
 
-// A flow's line.
-fn put_flow(out: &mut [u8], at: usize, f: Flow) -> usize
-    ensures { Put out.old at (line_of flow_word (flow_numbers (exact f))) out.new result }
+// The flows that count: none beyond the array.
+fn first_flows(flows: &[Flow], count: u16) -> &[Flow]
+    ensures { result.now ≡ take count flows.now }
 {
-    let numbers = flow_numbers(f);
-    let n = count_of_numbers(f);
-    put::put_line(out, at, b"flow", &numbers[..n])
+    &flows[..flows.len().min(count as usize)]
 }
 
-// How many flows a set has: none beyond the array.
-fn used_flows(s: FlowSet) -> usize
-    ensures { (result ≡ min s.count most_flows) × (result ≤ most_flows) }
+// The lines of flows.
+fn put_flows(out: &mut [u8], at: usize, flows: &[Flow]) -> usize
+    ensures { Put out.old at (flow_lines (map exact flows.now)) out.new result }
 {
-    let n = s.count as usize;
-    if n <= Flow::MOST { n } else { Flow::MOST }
-}
-
-// The lines of a set's flows.
-fn put_flows(out: &mut [u8], at: usize, s: FlowSet) -> usize
-    ensures { Put out.old at (flow_lines (used s).flows) out.new result }
-{
-    let n = used_flows(s);
     let mut place = at;
-    let mut k = 0usize;
-    while k < n {
-        place = put_flow(out, place, s.flows[k]);
-        k += 1;
+    for f in flows {
+        place = put_flow(out, place, f);
     }
     place
 }
 
 // A set's text from a place on, as far as the buffer goes; the answer is the place after it.
-pub fn put_set(out: &mut [u8], at: usize, s: FlowSet) -> usize
-    ensures { Put out.old at (text_of (used s)) out.new result }
+fn put_set(out: &mut [u8], at: usize, s: &FlowSet) -> usize
+    ensures { Put out.old at (text_of (used s.now)) out.new result }
 {
-    let bits = s.map.0 as u32;
-    let map = [bits; 1];
-    let place = put::put_line(out, at, b"set", &map);
-    put_flows(out, place, s)
+    let place = put::put_line(out, at, b"set", &[s.map.0 as u32]);
+    put_flows(out, place, first_flows(&s.flows, s.count))
 }
 
 // The length of a set's text: it is put where the buffer ends, so that nothing is stored.
-fn text_length(out: &mut [u8], s: FlowSet) -> usize
+fn text_length(out: &mut [u8], s: &FlowSet) -> usize
     ensures { (out.new ≡ out.old)
-        × (result ≡ min (length (text_of (used s))) (last_place - length out.old)) }
+        × (result ≡ min (length (text_of (used s.now))) (last_place - length out.old)) }
 {
     let end = out.len();
     put_set(out, end, s) - end
@@ -100,10 +77,10 @@ fn text_length(out: &mut [u8], s: FlowSet) -> usize
 
 // Whether a buffer has room for a set's text. One that is as long as the longest text has room for any; for a shorter one the text is
 // measured first.
-fn has_room(out: &mut [u8], s: FlowSet) -> bool
-    requires { length (text_of (used s)) ≤ longest_text }
+fn has_room(out: &mut [u8], s: &FlowSet) -> bool
+    requires { length (text_of (used s.now)) ≤ longest_text }
     ensures { (out.new ≡ out.old)
-        × (result ≡ nat_le (length (text_of (used s))) (length out.old)) }
+        × (result ≡ nat_le (length (text_of (used s.now))) (length out.old)) }
 {
     if LONGEST <= out.len() {
         return true;
@@ -113,15 +90,16 @@ fn has_room(out: &mut [u8], s: FlowSet) -> bool
 }
 
 // Writes a set's text into the buffer, unless the room refuses it.
-fn write_text(s: FlowSet, out: &mut [u8]) -> Written
-    requires { length (text_of (used s)) ≤ longest_text }
-    ensures { (result ≡ room_answer (text_of (used s)) (length out.old))
-        × (out.new ≡ room_into (text_of (used s)) out.old) }
+fn write_text(s: &FlowSet, out: &mut [u8]) -> Written
+    requires { length (text_of (used s.now)) ≤ longest_text }
+    ensures { (result ≡ room_answer (text_of (used s.now)) (length out.old))
+        × (out.new ≡ room_into (text_of (used s.now)) out.old) }
 {
     if has_room(out, s) {
-        let length = put_set(out, 0, s);
-        let fault = Fault::none();
-        return Written { fault, length };
+        return Written {
+            fault: Fault::none(),
+            length: put_set(out, 0, s),
+        };
     }
     Written::refused(Fault::of(Refusal::NoRoom))
 }
@@ -133,9 +111,8 @@ pub fn write(s: FlowSet, out: &mut [u8]) -> Written
     ensures bytes { out.new ≡ write_into (used s) out.old }
     ensures again { good (record_fault (used s)).refusal ≡ true → ReadAgain s }
 {
-    let fault = rules::record_fault(s);
-    if fault.refuses() {
-        return Written::refused(fault);
+    match rules::record_fault(s) {
+        Ok(()) => write_text(&s, out),
+        Err(fault) => Written::refused(fault),
     }
-    write_text(s, out)
 }

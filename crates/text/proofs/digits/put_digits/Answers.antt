@@ -1,13 +1,10 @@
-use Rattle.std.proofs.Common.{sym, arith, rules}
+use Rattle.std.proofs.Common.{sym, rules}
 use Rattle.document.specs.Text.{decimal}
-use Rattle.text.specs.DigitsPut.{sets_out, digits_start, digits_left, digits_more, digits_done}
+use Rattle.text.specs.DigitsPut.{sets_out, digits_left, digits_more, digits_done}
 use Rattle.text.proofs.digits.put_digits.Goals as goal
 
 pub returns-then-out-at : goal.returns-then-out-at
 returns-then-out-at c = (sym (sets_out (decimal c.args.v) _ _ c.if-out-at.true), search rules, search rules)
-
-pub loop-n-init : goal.loop-n-init
-loop-n-init c = (search rules, search rules, digits_start _ _ _ _ (search rules) (omega arith))
 
 pub overflow_sub-i : goal.overflow_sub-i
 overflow_sub-i c = digits_left _ _ _ _ _ _ c.loop-n.invariant.2 c.loop-n-test.true

@@ -1,12 +1,9 @@
 -- `first_bad` asks whether there is a field at all, then for the word, and then goes on where it ends. Assumes nothing.
-use Rattle.std.proofs.Common.{Bool, not, ◌||◌, ltb, sym, ap, ◌∙◌, eq-eqb, ne_eqb}
+use Rattle.std.proofs.Common.{Bool, not, ◌||◌, ltb, sym, ap, ◌∙◌, ne_eqb}
 use Rattle.document.specs.Text.{set_word}
 use Rattle.document.specs.BadField.{breaks_first, first_breaking}
 use Rattle.text.specs.FieldSearch.{word_ends, breaking_word, breaking_numbers}
 use Rattle.text.proofs.field.first_bad.Goals as goal
-
-pub returns-then-s-eq0 : goal.returns-then-s-eq0
-returns-then-s-eq0 c = rw (eq-eqb _ 0 c.if-s-eq0.true)
 
 pub bad_map-requires : goal.bad_map-requires
 bad_map-requires c = (word_ends _ set_word 0 (sym c.is_word.ensures ∙ c.if-is_word.true)).ends

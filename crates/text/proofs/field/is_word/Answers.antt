@@ -1,23 +1,10 @@
-use Rattle.std.proofs.Common.{ℕ, eqb, sym, ap, ◌∙◌, arith}
-use Rattle.text.specs.Rows.{spelling_start, spelling_more, spelling_inside}
-use Rattle.text.specs.FieldSearch.{spelling_word, spelling_other}
+-- `is_word` asks for the word, and then that the field ends. Assumes nothing.
+use Rattle.std.proofs.Common.{ℕ, eqb, sym, ap, ◌∙◌}
+use Rattle.text.specs.FieldSearch.{word_field, no_word_field}
 use Rattle.text.proofs.field.is_word.Goals as goal
 
-pub loop-i-init : goal.loop-i-init
-loop-i-init c = spelling_start _ _ _
+pub returns-in-None : goal.returns-in-None
+returns-in-None c = no_word_field _ _ _ (sym c.in-None.is ∙ c.after_word.ensures)
 
-pub overflow_add-at : goal.overflow_add-at
-overflow_add-at c = omega (arith, spelling_inside _ _ _ _ _ c.loop-i.invariant (sym c.begins.ensures ∙ c.if-begins.true))
-
-pub loop-i-preserved : goal.loop-i-preserved
-loop-i-preserved c =
-    spelling_more _ _ _ _ _ c.loop-i.invariant c.loop-i-test.true (sym c.begins.ensures ∙ c.if-begins.true)
-
-pub returns-else-begins : goal.returns-else-begins
-returns-else-begins c =
-    spelling_other _ _ _ _ _ c.loop-i.invariant c.loop-i-test.true (sym c.begins.ensures ∙ c.if-begins.false)
-
-pub returns : goal.returns
-returns c =
-    ap (λ (n : ℕ). eqb n 10) c.look_at.ensures.0
-    ∙ spelling_word _ _ _ _ _ c.loop-i.invariant c.loop-i-test.false
+pub returns-in-Some : goal.returns-in-Some
+returns-in-Some c = ap (λ (n : ℕ). eqb n 10) c.look_at.ensures.0 ∙ word_field _ _ _ _ (sym c.in-Some.is ∙ c.after_word.ensures)

@@ -5,7 +5,7 @@ use Rattle.text.specs.Rows.{NumbersSoFar}
 use Rattle.text.proofs.line.numbers_at.Given as goal
 
 abbrev pub invariant-loop-i : goal.invariant-loop-i
-invariant-loop-i l = NumbersSoFar l.s l.from l.i l.k l.numbers
+invariant-loop-i l = NumbersSoFar l.s l.from l.i l.count l.numbers
 
 abbrev pub decreases-loop-i : goal.decreases-loop-i
 decreases-loop-i l = length l.s - l.i

@@ -1,56 +1,37 @@
-use Rattle.std.proofs.Common.{◌≡◌, ◌<◌, length, drop, sym, ◌∙◌, arith}
-use Rattle.std.specs.Prelude.{ℕ, List}
+use Rattle.std.proofs.Common.{◌≡◌, ◌<◌, length, drop, arith}
+use Rattle.std.specs.Prelude.{ℕ, List, Result}
 use Rattle.model.specs.declared.kinds.FlowSet.{FlowSet}
 use Rattle.model.specs.declared.answers.Reading.{Reading}
-use Rattle.model.specs.declared.answers.Refusal.{Refusal}
+use Rattle.model.specs.declared.answers.Fault.{Fault}
 use Rattle.text.specs.declared.line.Row.{Row}
-use Rattle.text.specs.Row.{row_in}
-use Rattle.text.specs.RowFaults.{flow_row_fault}
-use Rattle.document.specs.Text.{flow_word}
-use Rattle.text.specs.FlowRows.{Lines, NextLine, lines_start, lines_done, lines_refused, lines_good, lines_on, lines_more}
+use Rattle.text.specs.RowFaults.{flow_read}
+use Rattle.text.specs.FlowRows.{Lines, NextLine, lines_done, lines_refused, lines_good, lines_on, lines_more}
 use Rattle.text.proofs.reader.read_flows.Goals as goal
 
 -- the line that the loop has come to
-next_line : {s : List ℕ} {r : Reading} {at k : ℕ} {t : FlowSet} {w : Row} {x : Refusal} → Lines s r at k t → at < length s
-    → w ≡ row_in flow_word at (drop at s) → x ≡ flow_row_fault k w → NextLine s r at k t w x
-next_line z i w r = record { so_far = z; inside = i; row_is = w; refusal_is = r }
+next_line : {s : List ℕ} {r : Reading} {at k : ℕ} {t : FlowSet} {x : Result Row Fault} → Lines s r at k t → at < length s
+    → x ≡ flow_read k at (drop at s) → NextLine s r at k t x
+next_line z i w = record { so_far = z; inside = i; says = w }
 
-pub loop-at-init : goal.loop-at-init
-loop-at-init c = (c.blank-blank.ensures, lines_start _ _ _ _ c.blank-blank.ensures _ c.new-channels.ensures)
+pub returns-in-Err : goal.returns-in-Err
+returns-in-Err c =
+    lines_refused (next_line c.loop-at.invariant c.loop-at-test.true c.flow_line.ensures) _ c.in-Err.is _ c.blank-set-in-Err.ensures
 
-pub returns-then-code-ne0 : goal.returns-then-code-ne0
-returns-then-code-ne0 c =
-    let n = next_line c.loop-at.invariant.1 c.loop-at-test.true c.flow_row-row.ensures c.flow_fault-refusal.ensures in
-    (rw c.line_number_of.ensures at c.reading_of.ensures)
-    ∙ lines_refused n _ c.flow_field-field.ensures _ c.loop-at.invariant.0 (λ q. c.if-code-ne0.true (c.code.ensures ∙ q))
-
-pub flow_of-flow-requires : goal.flow_of-flow-requires
-flow_of-flow-requires c =
-    let g = lines_good (next_line c.loop-at.invariant.1 c.loop-at-test.true c.flow_row-row.ensures c.flow_fault-refusal.ensures) (sym c.code.ensures ∙ c.if-code-ne0.false) in (g.four, g.few)
-
-pub offset_bounds-set-k : goal.offset_bounds-set-k
-offset_bounds-set-k c =
-    let g = lines_good (next_line c.loop-at.invariant.1 c.loop-at-test.true c.flow_row-row.ensures c.flow_fault-refusal.ensures) (sym c.code.ensures ∙ c.if-code-ne0.false) in omega (arith, g.fits)
+pub flow_of-requires : goal.flow_of-requires
+flow_of-requires c =
+    let g = lines_good (next_line c.loop-at.invariant c.loop-at-test.true c.flow_line.ensures) _ c.in-Ok.is in (g.four, g.few)
 
 pub bounds-set-k : goal.bounds-set-k
 bounds-set-k c =
-    let g = lines_good (next_line c.loop-at.invariant.1 c.loop-at-test.true c.flow_row-row.ensures c.flow_fault-refusal.ensures) (sym c.code.ensures ∙ c.if-code-ne0.false) in omega (arith, g.fits)
-
-pub overflow_add-k : goal.overflow_add-k
-overflow_add-k c =
-    let g = lines_good (next_line c.loop-at.invariant.1 c.loop-at-test.true c.flow_row-row.ensures c.flow_fault-refusal.ensures) (sym c.code.ensures ∙ c.if-code-ne0.false) in omega (arith, g.fits)
-
-pub overflow_cast-set : goal.overflow_cast-set
-overflow_cast-set c =
-    let g = lines_good (next_line c.loop-at.invariant.1 c.loop-at-test.true c.flow_row-row.ensures c.flow_fault-refusal.ensures) (sym c.code.ensures ∙ c.if-code-ne0.false) in omega (arith, g.fits)
+    let g = lines_good (next_line c.loop-at.invariant c.loop-at-test.true c.flow_line.ensures) _ c.in-Ok.is in omega (arith, g.fits)
 
 pub loop-at-smaller : goal.loop-at-smaller
 loop-at-smaller c =
-    omega (arith, lines_on (next_line c.loop-at.invariant.1 c.loop-at-test.true c.flow_row-row.ensures c.flow_fault-refusal.ensures) (sym c.code.ensures ∙ c.if-code-ne0.false))
+    omega (arith, lines_on (next_line c.loop-at.invariant c.loop-at-test.true c.flow_line.ensures) _ c.in-Ok.is)
 
 pub loop-at-preserved : goal.loop-at-preserved
 loop-at-preserved c =
-    (c.loop-at.invariant.0, lines_more (next_line c.loop-at.invariant.1 c.loop-at-test.true c.flow_row-row.ensures c.flow_fault-refusal.ensures) (sym c.code.ensures ∙ c.if-code-ne0.false) _ c.flow_of-flow.ensures)
+    lines_more (next_line c.loop-at.invariant c.loop-at-test.true c.flow_line.ensures) _ c.in-Ok.is _ c.flow_of.ensures
 
 pub returns : goal.returns
-returns c = c.reading_of-2.ensures ∙ lines_done _ _ _ _ _ c.loop-at.invariant.1 c.loop-at-test.false
+returns c = rw c.none-fault.ensures (lines_done _ _ _ _ _ c.loop-at.invariant c.loop-at-test.false)

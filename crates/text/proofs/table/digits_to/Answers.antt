@@ -1,9 +1,6 @@
-use Rattle.std.proofs.Common.{refl, ◌∙◌, arith}
+use Rattle.std.proofs.Common.{◌∙◌, arith}
 use Rattle.text.specs.EndedNumbers.{to_end_inside, to_end_more, to_end_above, to_end}
 use Rattle.text.proofs.table.digits_to.Goals as goal
-
-pub loop-d-init : goal.loop-d-init
-loop-d-init c = record { left = refl; small = c.requires.0; sees = c.digit_at-d.ensures }
 
 pub returns-then-v-gt65535 : goal.returns-then-v-gt65535
 returns-then-v-gt65535 c = to_end_above c.loop-d.invariant c.loop-d-test.true c.if-v-gt65535.true

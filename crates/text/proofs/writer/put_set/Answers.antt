@@ -6,6 +6,5 @@ use Rattle.text.proofs.writer.put_set.Goals as goal
 
 pub returns : goal.returns
 returns c =
-    let s = c.args.s in
-    put_same _ _ _ _ _ _ (text_parts s)
+    put_same _ _ _ _ _ _ (text_parts c.args.s.now _ c.first_flows.ensures)
     (put_put _ _ _ _ _ _ _ _ (omega arith) c.put_line-place.ensures c.put_flows.ensures)

@@ -6,7 +6,7 @@ use Rattle.text.proofs.writer.write_text.Goals as goal
 pub returns-then-has_room : goal.returns-then-has_room
 returns-then-has_room c =
     let r = c.has_room.ensures in
-    let a = room_enough _ _ _ r.0 _ r.1 c.if-has_room.true (omega arith) _ _ c.put_set-length.ensures _ c.none-fault.ensures in
+    let a = room_enough _ _ _ r.0 _ r.1 c.if-has_room.true (omega arith) _ _ c.put_set.ensures _ c.none.ensures in
     (a.answer, a.bytes)
 
 pub returns : goal.returns

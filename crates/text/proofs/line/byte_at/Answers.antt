@@ -1,7 +1,0 @@
--- `byte_at` is the byte at the place, since a list gives 0 beyond its end. Assumes nothing.
-use Rattle.std.proofs.Common.{sym}
-use lib.ListN.{get_or-eq_default}
-use Rattle.text.proofs.line.byte_at.Goals as goal
-
-pub returns-else-at-s : goal.returns-else-at-s
-returns-else-at-s c = sym (get_or-eq_default c.args.s.now 0 c.if-at-s.false)
