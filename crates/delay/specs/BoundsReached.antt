@@ -1,16 +1,15 @@
 -- From the values at the first and at the last list to the bounds, and to the answer for all flows.
-use Rattle.std.specs.Prelude.{◌≡◌, true, false, List, ℕ, ◌-◌, ◌≤◌, ◌<◌, get_or, replicate}
+use Rattle.std.specs.Prelude.{◌≡◌, true, List, ℕ, ◌-◌, ◌≤◌, ◌<◌, get_or, replicate}
 use Rattle.std.proofs.Common.{sym, ap, ◌∙◌, le_trans, le_of_eq, arith}
-use Rattle.std.proofs.lemmas.List.{length-replicate}
 use Rattle.model.specs.declared.kinds.FlowSet.{FlowSet}
-use Rattle.document.specs.Delay.{deadline, ways, basic_bound, reached, tight_bound, bounds_of, deadlines}
-use Rattle.delay.specs.PairGrids.{ListOf, zeros}
-use Rattle.delay.specs.DelayTables.{Tables, TablesHold}
+use Rattle.document.specs.Delay.{ways, basic_bound, reached, tight_bound, deadlines}
+use Rattle.delay.specs.PairGrids.{zeros}
+use Rattle.delay.specs.DelayTables.{TablesHold}
+use Rattle.delay.specs.declared.tables.Tables.{Tables}
 use Rattle.model.specs.Limits.{most_flows}
-use Rattle.model.specs.Refusals.{no_fault, good, refused_bounds}
+use Rattle.model.specs.Refusals.{good}
 use Rattle.delay.specs.declared.verdicts.AllBounds.{AllBounds}
 use Rattle.std.proofs.Math.Decide.{dec_le}
-use Rattle.model.specs.declared.answers.Fault.{Fault}
 use Rattle.model.specs.declared.answers.Verdict.{Verdict}
 use Rattle.model.specs.declared.answers.Bounds.{Bounds}
 use Rattle.document.specs.Reader.{record_fault}
@@ -18,11 +17,10 @@ use Rattle.laws.specs.Values.{list_entry, value_at_deadlines, deadlines_entry}
 use Rattle.delay.specs.EquationValues.{table_value, value_carried, ValuesTo}
 use Rattle.delay.specs.AllBounds.{AllBoundsOf}
 use Rattle.delay.specs.OneRound.{list_of_slack, SlackWithin}
-use Rattle.delay.specs.VerdictAnswers.{verdict_good, verdict_bad, bounds_refused, bounds_none, bounds_given}
+use Rattle.delay.specs.VerdictAnswers.{verdict_good, bounds_none, bounds_given}
 
 -- both bounds of every flow, and the number of rounds
 pub record BothBoundsOf (s : FlowSet) (r : AllBounds) : Type 0 where
-  pub fault : r.fault ≡ no_fault
   pub basics : ValuesTo (basic_bound s) s.count r.basic
   pub tights : ValuesTo (tight_bound s) s.count r.tightened
   pub rounds : r.rounds ≡ (reached s).rounds
@@ -37,15 +35,14 @@ basic_carried s n t o m c k h =
 
 -- the value at the last list is the tightened bound
 pub tight_carried : (s : FlowSet) → s.count ≤ most_flows → (t : Tables) → TablesHold s t → (m : ℕ) → m ≡ ways s
-    → (d : List ℕ) → ListOf deadline s d → (g : List ℕ) → SlackWithin d g s.count
-    → list_of_slack d g s.count ≡ (reached s).list → (k : ℕ) → k < s.count → table_value t m g k ≡ tight_bound s k
+    → (g : List ℕ) → SlackWithin t.numbers.deadline g s.count → list_of_slack t.numbers.deadline g s.count ≡ (reached s).list → (k : ℕ) → k < s.count → table_value t m g k ≡ tight_bound s k
 unfolding tight_bound
-tight_carried s n t o m q d f g b e k h =
+tight_carried s n t o m q g b e k h =
     ap (λ (x : ℕ). table_value t x g k) q
     ∙ value_carried s n t o g k h (reached s).list
-    (λ l i. let a = list_entry (λ j. get_or d j 0 - get_or g j 0) s.count l i in
+    (λ l i. let a = list_entry (λ j. get_or t.numbers.deadline j 0 - get_or g j 0) s.count l i in
     let c = ap (λ (u : List ℕ). get_or u l 0) e in
-    let z = f.entry l i in
+    let z = o.numbers.deadlines.entry l i in
     let p = b l i in
     omega arith)
 
@@ -56,27 +53,12 @@ values_ext f g n x e o =
       small = λ i h. le_trans (le_of_eq (sym (e i h))) (o.small i h);
     }
 
--- the answer for all flows, of a refused set and of one that the check passes
-pub all_refused : (s : FlowSet) (f : Fault) → good (record_fault s).refusal ≡ false → f ≡ record_fault s
-    → AllBoundsOf s record { fault = f; basic = replicate most_flows 0; tightened = replicate most_flows 0; rounds = 0 }
-all_refused s f e p =
-    let v = verdict_bad s e in
-    let b : (k : ℕ) → refused_bounds f ≡ bounds_of s k = λ k. bounds_refused s k f e p in
-    record {
-      fault = p ∙ sym (ap (λ (x : Verdict). x.fault) v);
-      rounds = sym (ap (λ (x : Verdict). x.rounds) v);
-      basic_length = length-replicate {A = ℕ} most_flows 0;
-      tight_length = length-replicate {A = ℕ} most_flows 0;
-      basics = λ k. zeros most_flows k ∙ ap (λ (x : Bounds). x.basic) (b k);
-      tights = λ k. zeros most_flows k ∙ ap (λ (x : Bounds). x.tightened) (b k);
-      small = λ k. omega (arith, ap (λ (x : Bounds). x.tightened) (b k));
-    }
-
+-- the answer for all flows of a set that the check passes
 pub all_given : (s : FlowSet) (r : AllBounds) → good (record_fault s).refusal ≡ true → BothBoundsOf s r → AllBoundsOf s r
 all_given s r e j =
     let v = verdict_good s e in
     record {
-      fault = j.fault ∙ sym (ap (λ (x : Verdict). x.fault) v);
+      passed = e;
       rounds = j.rounds ∙ sym (ap (λ (x : Verdict). x.rounds) v);
       basic_length = j.basics.entries.whole;
       tight_length = j.tights.entries.whole;

@@ -7,8 +7,9 @@ use Rattle.model.specs.Limits.{most_flows}
 use Rattle.model.specs.Sums.{sum_to}
 use Rattle.document.specs.Delay.{joined, ways, deadline, work_at, whole_packets, remainder, share, whole_share, conflict_share, over_others, bound_with, tightened, value_at}
 use Rattle.delay.specs.PairGrids.{pair_at, of_other, conflict_of, FilledTo, filled_start, filled_next}
-use Rattle.delay.specs.DelayTables.{Tables, remainder_of, TablesHold}
-use Rattle.delay.specs.ShareRows.{SmallWork}
+use Rattle.delay.specs.DelayTables.{remainder_of, TablesHold}
+use Rattle.delay.specs.ShareRows.{SmallWork, no_sums}
+use Rattle.delay.specs.declared.tables.Tables.{Tables}
 use Rattle.std.proofs.Math.Path.{sym, ap, ap₂}
 use Rattle.std.proofs.Common.{◌∙◌, inr, le_trans, le_of_eq, mul-le-mul_left, arith}
 use Rattle.std.proofs.Math.Decide.{dec_le}
@@ -30,21 +31,21 @@ work_remainders w r g k = sum_to (λ l. min (get_or w l 0) (remainder_less r g k
 
 -- ΣX and ΣW
 abbrev pub conflict_sum : Tables → List ℕ → ℕ → ℕ
-conflict_sum t g k = get_or t.whole_s k 0 + conflict_remainders t.conflict t.remainder g k
+conflict_sum t g k = (get_or t.whole k no_sums).conflict + conflict_remainders t.conflict t.remainder g k
 
 abbrev pub work_sum : Tables → List ℕ → ℕ → ℕ
-work_sum t g k = get_or t.whole_c k 0 + work_remainders t.work t.remainder g k
+work_sum t g k = (get_or t.whole k no_sums).work + work_remainders t.numbers.work t.remainder g k
 
 -- the equation's value
 unfoldable pub table_value : Tables → ℕ → List ℕ → ℕ → ℕ
-table_value t m g k = joined (get_or t.work k 0) (conflict_sum t g k) (work_sum t g k) m
+table_value t m g k = joined (get_or t.numbers.work k 0) (conflict_sum t g k) (work_sum t g k) m
 
 -- ΣX is no more than ΣW, and no sum is too large for its number of bits
 pub record SumsFit (t : Tables) (g : List ℕ) (k : ℕ) : Type 0 where
   pub sums : conflict_sum t g k ≤ work_sum t g k
-  pub conflict_small : get_or t.whole_s k 0 ≤ 268431360
-  pub work_small : get_or t.whole_c k 0 ≤ 268431360
-  pub small : SmallWork t.conflict t.work k
+  pub conflict_small : (get_or t.whole k no_sums).conflict ≤ 268431360
+  pub work_small : (get_or t.whole k no_sums).work ≤ 268431360
+  pub small : SmallWork t.conflict t.numbers.work k
 
 -- so it is for the first n flows at every list
 abbrev pub SumsFitTo : Tables → ℕ → Type 0
@@ -81,32 +82,32 @@ module _ (s : FlowSet) (n : s.count ≤ most_flows) (t : Tables) (o : TablesHold
   conflict_carried : conflict_sum t g k ≡ over_others s k (conflict_share s (cut_of s g k) k)
   unfolding conflict_remainders
   conflict_carried =
-      ap₂ (λ (x y : ℕ). x + y) (o.whole_conflicts.entry k h) (row_carried (λ l. pair_at t.conflict k l) (conflict_of s k) (λ l i. o.conflicts.row k l h i))
+      ap₂ (λ (x y : ℕ). x + y) (o.wholes k h).conflict (row_carried (λ l. pair_at t.conflict k l) (conflict_of s k) (λ l i. o.conflicts.row k l h i))
       ∙ sym (sum_parts s k (whole_packets s k) (conflict_of s k) (remainder s k) (λ l. get_or g l 0))
 
   work_carried : work_sum t g k ≡ over_others s k (whole_share s (cut_of s g k) k)
   unfolding work_remainders
   work_carried =
-      ap₂ (λ (x y : ℕ). x + y) (o.whole_works.entry k h) (row_carried (λ l. get_or t.work l 0) (work_at s) (λ l i. o.works.entry l i))
+      ap₂ (λ (x y : ℕ). x + y) (o.wholes k h).work (row_carried (λ l. get_or t.numbers.work l 0) (work_at s) (λ l i. o.numbers.works.entry l i))
       ∙ sym (sum_parts s k (whole_packets s k) (work_at s) (remainder s k) (λ l. get_or g l 0))
 
   -- the equation's value at a list whose distances from D are g
   pub value_carried : (v : List ℕ) → ((l : ℕ) → l < s.count → get_or g l 0 ≡ deadline s l - get_or v l 0) → table_value t (ways s) g k ≡ value_at s v k
   unfolding table_value value_at bound_with
   value_carried v e =
-      ap (λ (c : ℕ). joined c (conflict_sum t g k) (work_sum t g k) (ways s)) (o.works.entry k h)
+      ap (λ (c : ℕ). joined c (conflict_sum t g k) (work_sum t g k) (ways s)) (o.numbers.works.entry k h)
       ∙ ap₂ (λ (x w : ℕ). joined (work_at s k) x w (ways s)) conflict_carried work_carried
       ∙ bound_ext s (cut_of s g k) (tightened s v k) k (λ l i. ap (λ (x : ℕ). remainder s k l - x) (e l i))
 
   -- what the value's sums need
   pub sums_fit_at : SumsFit t g k
   sums_fit_at =
-      let a = o.whole_works_le k h in
+      let z = o.wholes k h in
       let b = others_le s k (λ l. whole_packets s k l * conflict_of s k l) (λ l. whole_packets s k l * work_at s l) (λ l i. whole_le l) in
       record {
         sums = le_trans (le_of_eq conflict_carried) (le_trans (sums_le s (cut_of s g k) k) (le_of_eq (sym work_carried)));
-        conflict_small = le_trans (le_of_eq (o.whole_conflicts.entry k h)) (le_trans b a);
-        work_small = le_trans (le_of_eq (o.whole_works.entry k h)) a;
+        conflict_small = le_trans (le_of_eq z.conflict) (le_trans b (le_trans (le_of_eq (sym z.work)) z.work_le));
+        work_small = z.work_le;
         small = record {
           conflicts = λ l i. elim (dec_le s.count l) [
             | yes q ↦ let e = o.conflicts.none k l i (inr q) in omega arith
@@ -115,8 +116,8 @@ module _ (s : FlowSet) (n : s.count ≤ most_flows) (t : Tables) (o : TablesHold
                 le_trans (le_of_eq (o.conflicts.row k l h j)) (le_trans (conflict_le_work (flow_at s k) (flow_at s l)) (o.works_le l j))
           ];
           works = λ l i. elim (dec_le s.count l) [
-            | yes q ↦ let e = o.works.none l q in omega arith
-            | no q ↦ let j : l < s.count = omega arith in le_trans (le_of_eq (o.works.entry l j)) (o.works_le l j)
+            | yes q ↦ let e = o.numbers.works.none l q in omega arith
+            | no q ↦ let j : l < s.count = omega arith in le_trans (le_of_eq (o.numbers.works.entry l j)) (o.works_le l j)
           ];
         };
       }

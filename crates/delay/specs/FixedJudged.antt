@@ -5,7 +5,6 @@ use Rattle.std.proofs.Common.{◌∙◌, le_trans, le_of_eq, le_refl, arith}
 use Rattle.std.proofs.Math.Decide.{dec_le}
 use Rattle.model.specs.declared.kinds.FlowSet.{FlowSet}
 use Rattle.model.specs.Limits.{most_flows}
-use Rattle.model.specs.Refusals.{no_fault}
 use Rattle.document.specs.Delay.{deadline}
 use Rattle.document.specs.Fixed.{bound_after, fixed_bound, fixed_list, judged}
 use Rattle.laws.specs.FixedBounds.{judged_count, after_ext, judged_bound, unjudged_bound, all_keep, judged_first, judged_next, judged_ends, judged_below, judged_count_law}
@@ -19,7 +18,6 @@ pub record JudgedTo (s : FlowSet) (k : ℕ) (bs : List ℕ) : Type 0 where
 
 -- every flow's bound, and how many are judged
 pub record AllJudged (s : FlowSet) (r : AllFixed) : Type 0 where
-  pub fault : r.fault ≡ no_fault
   pub bounds : FilledTo (fixed_bound s) s.count r.bound
   pub count : r.judged ≡ judged_count s
 
@@ -27,11 +25,10 @@ pub judged_start : (s : FlowSet) → JudgedTo s 0 (replicate most_flows 0)
 judged_start s = record { bounds = filled_start (fixed_bound s); this = judged_first s }
 
 -- where the first j flows are judged and no others, their bounds are all
-first_judged : (s : FlowSet) (j : ℕ) (r : AllFixed) → j ≤ s.count → r.fault ≡ no_fault → FilledTo (fixed_bound s) j r.bound → r.judged ≡ j
+first_judged : (s : FlowSet) (j : ℕ) (r : AllFixed) → j ≤ s.count → FilledTo (fixed_bound s) j r.bound → r.judged ≡ j
     → ((i : ℕ) → i < j → judged s i ≡ true) → ((i : ℕ) → j ≤ i → i < s.count → judged s i ≡ false) → AllJudged s r
-first_judged s j r h f b n yes-below no_above =
+first_judged s j r h b n yes-below no_above =
     record {
-      fault = f;
       bounds = record {
         whole = b.whole;
         entry = λ i l. elim (dec_le j i) [
@@ -44,9 +41,9 @@ first_judged s j r h f b n yes-below no_above =
     }
 
 -- all flows keep their deadlines, and all are judged
-pub all_kept : (s : FlowSet) (r : AllFixed) → r.fault ≡ no_fault → JudgedTo s s.count r.bound → r.judged ≡ s.count → AllJudged s r
-all_kept s r f o n =
-    first_judged s s.count r (le_refl s.count) f o.bounds n (λ i l. judged_below s i s.count (omega arith) o.this) (λ i l u. absurd (omega arith))
+pub all_kept : (s : FlowSet) (r : AllFixed) → JudgedTo s s.count r.bound → r.judged ≡ s.count → AllJudged s r
+all_kept s r o n =
+    first_judged s s.count r (le_refl s.count) o.bounds n (λ i l. judged_below s i s.count (omega arith) o.this) (λ i l u. absurd (omega arith))
 
 module _ (s : FlowSet) (k : ℕ) (bs : List ℕ) (o : JudgedTo s k bs) where
   pub kept_below : (l : ℕ) → l < k → get_or bs l 0 ≤ deadline s l
@@ -67,8 +64,8 @@ module _ (s : FlowSet) (k : ℕ) (bs : List ℕ) (o : JudgedTo s k bs) where
         }
 
     -- it is not, and k is the last that is judged
-    pub judged_over : deadline s k < x → (r : AllFixed) → r.fault ≡ no_fault → r.bound ≡ set bs k x → r.judged ≡ k + 1 → AllJudged s r
-    judged_over i r f b n =
-        first_judged s (k + 1) r (omega arith) f (rw b (filled_next (fixed_bound s) k bs x (omega arith) o.bounds this_bound)) n
+    pub judged_over : deadline s k < x → (r : AllFixed) → r.bound ≡ set bs k x → r.judged ≡ k + 1 → AllJudged s r
+    judged_over i r b n =
+        first_judged s (k + 1) r (omega arith) (rw b (filled_next (fixed_bound s) k bs x (omega arith) o.bounds this_bound)) n
         (λ j l. judged_below s j k (omega arith) o.this)
         (λ j l u. judged_ends s k j (rw (← this_bound) i) (omega arith))

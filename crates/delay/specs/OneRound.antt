@@ -8,10 +8,10 @@ use Rattle.std.proofs.Math.ListN.{get_or, set}
 use Rattle.model.specs.declared.kinds.FlowSet.{FlowSet}
 use Rattle.model.specs.Sets.{list_to}
 use Rattle.document.specs.Text.{same}
-use Rattle.document.specs.Delay.{deadline, ways, round_of, value_at, lowered, round_to}
-use Rattle.delay.specs.PairGrids.{ListOf}
+use Rattle.document.specs.Delay.{ways, round_of, value_at, lowered, round_to}
 use Rattle.laws.specs.Rounds.{same_eq, same_refl}
-use Rattle.delay.specs.DelayTables.{Tables, TablesHold}
+use Rattle.delay.specs.DelayTables.{TablesHold}
+use Rattle.delay.specs.declared.tables.Tables.{Tables}
 use Rattle.model.specs.Limits.{most_flows}
 use Rattle.std.proofs.Math.Numerals.{add-one}
 use Rattle.std.proofs.Math.Decide.{ℕ_discrete}
@@ -32,16 +32,15 @@ pub record RoundDone (s : FlowSet) (v w : List ℕ) (changed : Bool) : Type 0 wh
   pub flag : same w v ≡ not changed
 
 -- the set whose tables these are, with n flows and m channels
-pub record SetOfTables (s : FlowSet) (d : List ℕ) (t : Tables) (n m : ℕ) : Type 0 where
+pub record SetOfTables (s : FlowSet) (t : Tables) (n m : ℕ) : Type 0 where
   pub tables : TablesHold s t
-  pub deadlines : ListOf deadline s d
   pub count : s.count ≡ n
   pub channels : ways s ≡ m
   pub most : n ≤ most_flows
 
 -- a round of that set
-abbrev pub RoundFor : List ℕ → Tables → ℕ → ℕ → List ℕ → List ℕ → Bool → Type 0
-RoundFor d t n m g h changed = (s : FlowSet) → SetOfTables s d t n m → RoundDone s (list_of_slack d g n) (list_of_slack d h n) changed
+abbrev pub RoundFor : Tables → ℕ → ℕ → List ℕ → List ℕ → Bool → Type 0
+RoundFor t n m g h changed = (s : FlowSet) → SetOfTables s t n m → RoundDone s (list_of_slack t.numbers.deadline g n) (list_of_slack t.numbers.deadline h n) changed
 
 -- whether an entry before k has moved from g to h
 abbrev pub EntryMoved : Bool → List ℕ → List ℕ → List ℕ → ℕ → Type 0
@@ -98,31 +97,34 @@ entry_moved_flag true d g h n o =
 entry_moved_flag false d g h n o = rw o (same_refl (list_of_slack d h n))
 
 -- a round from g, which has come to flow k and to h
-pub record RoundUnderway (d : List ℕ) (t : Tables) (n m : ℕ) (g h : List ℕ) (k : ℕ) (b : Bool) : Type 0 where
+pub record RoundUnderway (t : Tables) (n m : ℕ) (g h : List ℕ) (k : ℕ) (b : Bool) : Type 0 where
   pub whole : length h ≡ most_flows
-  pub below : SlackWithin d h n
+  pub below : SlackWithin t.numbers.deadline h n
   pub later : (i : ℕ) → k ≤ i → get_or h i 0 ≡ get_or g i 0
-  pub moved : EntryMoved b d g h k
-  pub list : (s : FlowSet) → SetOfTables s d t n m → list_of_slack d h n ≡ round_to s (list_of_slack d g n) k
+  pub moved : EntryMoved b t.numbers.deadline g h k
+  pub list : (s : FlowSet) → SetOfTables s t n m → list_of_slack t.numbers.deadline h n ≡ round_to s (list_of_slack t.numbers.deadline g n) k
 
-pub underway_start : (d : List ℕ) (t : Tables) (n m : ℕ) (g : List ℕ) → length g ≡ most_flows → SlackWithin d g n → RoundUnderway d t n m g g 0 false
+pub underway_start : (t : Tables) (n m : ℕ) (g : List ℕ) → length g ≡ most_flows → SlackWithin t.numbers.deadline g n → RoundUnderway t n m g g 0 false
 unfolding round_to
-underway_start d t n m g w b = record { whole = w; below = b; later = λ i l. refl; moved = refl; list = λ s j. refl }
+underway_start t n m g w b = record { whole = w; below = b; later = λ i l. refl; moved = refl; list = λ s j. refl }
 
-pub underway_done : (d : List ℕ) (t : Tables) (n m : ℕ) (g h : List ℕ) (b : Bool) → RoundUnderway d t n m g h n b → RoundFor d t n m g h b
-underway_done d t n m g h b o s j =
+pub underway_done : (t : Tables) (n m : ℕ) (g h : List ℕ) (b : Bool) → RoundUnderway t n m g h n b → RoundFor t n m g h b
+underway_done t n m g h b o s j =
     record {
-      list = o.list s j ∙ ap (λ (x : ℕ). round_to s (list_of_slack d g n) x) (sym j.count);
-      flag = entry_moved_flag b d g h n o.moved;
+      list = o.list s j ∙ ap (λ (x : ℕ). round_to s (list_of_slack t.numbers.deadline g n) x) (sym j.count);
+      flag = entry_moved_flag b t.numbers.deadline g h n o.moved;
     }
 
-module _ (d : List ℕ) (t : Tables) (n m : ℕ) (g h : List ℕ) (k : ℕ) (b : Bool) (o : RoundUnderway d t n m g h k b)
+module _ (t : Tables) (n m : ℕ) (g h : List ℕ) (k : ℕ) (b : Bool) (o : RoundUnderway t n m g h k b)
     (l : k < n) (most : n ≤ most_flows) (x : ℕ) (e : x ≡ table_value t m h k) where
+  abbrev d : List ℕ
+  d = t.numbers.deadline
+
   abbrev u : List ℕ
   u = list_of_slack d h n
 
   -- the definition's step, with the value read off the tables
-  step : (s : FlowSet) → SetOfTables s d t n m → (y : ℕ) → y ≡ min (get_or d k 0 - get_or h k 0) x → set u k y ≡ round_to s (list_of_slack d g n) (k + 1)
+  step : (s : FlowSet) → SetOfTables s t n m → (y : ℕ) → y ≡ min (get_or d k 0 - get_or h k 0) x → set u k y ≡ round_to s (list_of_slack d g n) (k + 1)
   unfolding round_to lowered
   step s j y q =
       let c = j.count in
@@ -132,13 +134,13 @@ module _ (d : List ℕ) (t : Tables) (n m : ℕ) (g h : List ℕ) (k : ℕ) (b :
       (λ i p.
       let r : i < n = rw (← c) p in
       let f = list_entry (λ z. get_or d z 0 - get_or h z 0) n i r in
-      let v = j.deadlines.entry i p in
+      let v = j.tables.numbers.deadlines.entry i p in
       let z = o.below i r in
       omega arith) in
       let f = list_entry (λ z. get_or d z 0 - get_or h z 0) n k l in
       ap (λ (z : ℕ). set u k z) (q ∙ ap₂ (λ (z w : ℕ). min z w) (sym f) (e ∙ a)) ∙ ap (λ (w : List ℕ). lowered s w k) (o.list s j) ∙ rw add-one
 
-  pub underway_stays : get_or d k 0 - x ≤ get_or g k 0 → RoundUnderway d t n m g h (k + 1) b
+  pub underway_stays : get_or d k 0 - x ≤ get_or g k 0 → RoundUnderway t n m g h (k + 1) b
   underway_stays i =
       let z = o.later k (le_refl k) in
       let f = list_entry (λ z. get_or d z 0 - get_or h z 0) n k l in
@@ -151,7 +153,7 @@ module _ (d : List ℕ) (t : Tables) (n m : ℕ) (g h : List ℕ) (k : ℕ) (b :
         list = λ s j. sym (set_own u k (get_or d k 0 - get_or h k 0) (omega arith) (sym f)) ∙ step s j (get_or d k 0 - get_or h k 0) (omega arith);
       }
 
-  pub underway_falls : get_or g k 0 < get_or d k 0 - x → RoundUnderway d t n m g (set h k (get_or d k 0 - x)) (k + 1) true
+  pub underway_falls : get_or g k 0 < get_or d k 0 - x → RoundUnderway t n m g (set h k (get_or d k 0 - x)) (k + 1) true
   underway_falls i =
       let w = o.whole in
       let y = get_or d k 0 - x in

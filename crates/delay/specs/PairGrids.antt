@@ -1,9 +1,11 @@
 -- Grids of numbers, one for each pair of flows: row k, column l, in rows of as many columns as a set may have flows. Rows of one number for each flow.
 -- Both are filled place by place: what is written is there, and what was there before stays.
-use Rattle.std.specs.Prelude.{◌≡◌, refl, Bool, true, false, cond, ◌⊎◌, ◌≢◌, List, ℕ, ◌+◌, ◌*◌, ◌≤◌, ◌<◌, zero, suc, eqb, length, get_or, set, replicate}
+use Rattle.std.specs.Prelude.{◌≡◌, refl, cond, ◌⊎◌, ◌≢◌, List, ℕ, ◌+◌, ◌*◌, ◌≤◌, ◌<◌, zero, suc, eqb, length, get_or, set, replicate}
 use Rattle.std.proofs.Common.{◌∙◌, inl, inr, length-set, arith, get_or-set_same, get_or-set_other}
 use Rattle.std.proofs.lemmas.List.{length-replicate}
 use Rattle.model.specs.declared.kinds.FlowSet.{FlowSet}
+use Rattle.delay.specs.declared.conflicts.Columns.{Columns}
+use Rattle.delay.specs.declared.conflicts.Columns.TheVariants.{All, Below}
 use Rattle.model.specs.Limits.{most_flows}
 use Rattle.model.specs.Sets.{flow_at}
 use Rattle.document.specs.Delay.{conflict_work}
@@ -35,9 +37,10 @@ RowsTo f n k t = RowsBy f (λ i. n) k t
 abbrev pub RowsBelow : (ℕ → ℕ → ℕ) → ℕ → List ℕ → Type 0
 RowsBelow f k t = RowsBy f (λ i. i + 1) k t
 
--- how many columns of row i are filled: those of the flows up to i alone, or all n
-abbrev pub columns_of : Bool → ℕ → ℕ → ℕ
-columns_of below n i = cond below (i + 1) n
+-- how many columns of row i are filled: all n, or those of the flows up to i alone
+abbrev pub columns_of : Columns → ℕ → ℕ → ℕ
+columns_of All n i = n
+columns_of Below n i = i + 1
 
 -- u is t with f in row k, as far as column n; all else is as it was
 pub record RowDone (f : ℕ → ℕ) (n k : ℕ) (t u : List ℕ) : Type 0 where
@@ -130,13 +133,13 @@ rows_next f c k t u h r d =
     fewer i l (inr q) = inr q
 
 -- a flow's row has its own column, and no more columns than there are flows
-pub columns_own : (below : Bool) (n i : ℕ) → i < n → i < columns_of below n i
-columns_own true n i h = omega arith
-columns_own false n i h = h
+pub columns_own : (c : Columns) (n i : ℕ) → i < n → i < columns_of c n i
+columns_own All n i h = h
+columns_own Below n i h = omega arith
 
-pub columns_le : (below : Bool) (n i : ℕ) → i < n → columns_of below n i ≤ n
-columns_le true n i h = omega arith
-columns_le false n i h = omega arith
+pub columns_le : (c : Columns) (n i : ℕ) → i < n → columns_of c n i ≤ n
+columns_le All n i h = omega arith
+columns_le Below n i h = omega arith
 
 -- rows of another function that is the same there
 pub rows_ext : (f g : ℕ → ℕ → ℕ) (c : ℕ → ℕ) (k : ℕ) (t : List ℕ) → ((i l : ℕ) → i < k → l < c i → f i l ≡ g i l) → RowsBy f c k t → RowsBy g c k t

@@ -4,13 +4,16 @@ use Rattle.std.proofs.Common.{sym, ap, ◌∙◌, zero-le, le_trans, le_of_eq, a
 use Rattle.model.specs.declared.kinds.FlowSet.{FlowSet}
 use Rattle.model.specs.Sets.{list_to}
 use Rattle.document.specs.Text.{same}
-use Rattle.document.specs.Delay.{deadline, round_of, rounds_in, most_rounds, reached, work_at, Reached, deadlines}
+use Rattle.document.specs.Delay.{deadline, ways, round_of, rounds_in, most_rounds, reached, work_at, Reached, deadlines}
 use Rattle.delay.specs.PairGrids.{FilledTo, zeros}
-use Rattle.laws.specs.Rounds.{Between, room, same_eq, between_deadlines, between_round, WorkFits, room_deadlines, round_falls, rounds_stop, rounds_on}
+use Rattle.laws.specs.Accepted.{Accepted}
+use Rattle.laws.specs.Rounds.{accepted_fits, Between, room, same_eq, between_deadlines, between_round, WorkFits, room_deadlines, round_falls, rounds_stop, rounds_on}
 use Rattle.model.specs.Limits.{most_flows}
 use Rattle.laws.specs.SumLaws.{sum_le, sum_const}
 use Rattle.laws.specs.Values.{list_length, list_entry, deadlines_length, deadlines_entry}
-use Rattle.delay.specs.OneRound.{list_of_slack, SlackWithin, RoundDone}
+use Rattle.delay.specs.OneRound.{list_of_slack, SlackWithin, RoundDone, RoundFor}
+use Rattle.delay.specs.declared.tables.Tables.{Tables}
+use Rattle.delay.specs.DelayTables.{TablesHold}
 
 -- after c rounds the list is v: either the rounds go on from there as the definition's do, or they are over
 abbrev pub RoundsGoing : FlowSet → Bool → ℕ → List ℕ → Type 0
@@ -49,6 +52,13 @@ going_next s f c v w b g r = go b r.flag
           ap (λ (y : Reached). y.list) e ∙ sym (same_eq w v h),
           ap (λ (y : Reached). y.rounds) e,
         )
+
+-- a round by the tables of an accepted set is such a round
+pub round_after : (s : FlowSet) → Accepted s → (t : Tables) → TablesHold s t → (m : ℕ) → m ≡ ways s → (c : ℕ) (g h : List ℕ) (b : Bool)
+    → RoundsGoing s true c (list_of_slack t.numbers.deadline g s.count) → RoundFor t s.count m g h b
+    → RoundsGoing s b (c + 1) (list_of_slack t.numbers.deadline h s.count)
+round_after s a t o m e c g h b z r =
+    going_next s (accepted_fits s a) c _ _ b z (r s record { tables = o; count = refl; channels = sym e; most = a.count_le })
 
 -- the rounds of an accepted set fit a 32-bit number
 pub most_small : (s : FlowSet) → s.count ≤ most_flows → ((k : ℕ) → k < s.count → deadline s k ≤ 65535) → most_rounds s ≤ 4194241

@@ -1,4 +1,5 @@
--- Routes, links and tries of the flows in arrays of their own, and S of two flows by these arrays.
+-- Routes, links and tries of the flows in arrays of their own, and S of two flows by these arrays: laws of lists alone, which docs/requests/04.md names. The
+-- code lends the flows themselves today.
 use Rattle.std.specs.Prelude.{◌≡◌, refl, List, [], ℕ, ◌+◌, ◌*◌, ◌≤◌, ◌<◌, length, get_or, take, set, replicate}
 use Rattle.std.proofs.Common.{sym, ap, ap₂, ◌∙◌, lt_of_lt_of_le, arith, length-set, get_or-set_same, get_or-set_other}
 use Rattle.std.proofs.Math.Decide.{dec_le}

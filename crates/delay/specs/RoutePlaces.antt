@@ -1,13 +1,19 @@
 -- From which place on a node can stand on a route: a table has the first place for each kind of node, and a search from there finds what a search of the
 -- whole route finds. The search of two routes, link by link, is the definitions' search of lists.
 use Rattle.std.specs.Prelude.{◌≡◌, refl, Bool, true, false, ◌||◌, List, [], ◌∷◌, ℕ, ◌+◌, ◌%◌, ◌/◌, ◌<◌, zero, suc, ◌*◌, ◌≤◌, length, get_or, take, drop, set}
-use Rattle.std.proofs.Common.{sym, ap, ◌∙◌, length-set, add-zero, add-one, arith, ne_eqb, drop-cons, get_or-take, length-take-le, get_or-set_same, get_or-set_other}
+use Rattle.std.proofs.Common.{sym, ap, ap₂, ◌∙◌, length-set, add-zero, add-one, arith, ne_eqb, drop-cons, get_or-take, length-take-le, get_or-set_same, get_or-set_other}
 use Rattle.model.specs.Sums.{bit, sum_to, any_to}
-use Rattle.model.specs.Sets.{memb, any_of, meet, exact, links}
+use Rattle.model.specs.Limits.{most_nodes}
+use Rattle.model.specs.Sets.{memb, any_of, meet, exact, links, flow_at, used}
 use Rattle.std.proofs.Math.Decide.{ℕ_discrete}
 use Rattle.model.specs.declared.kinds.Flow.{Flow}
+use Rattle.model.specs.declared.kinds.FlowSet.{FlowSet}
 use Rattle.document.specs.Delay.{touches, conflict_work}
+use Rattle.laws.specs.Accepted.{Accepted}
 use Rattle.laws.specs.SumLaws.{sum_ext}
+use Rattle.laws.specs.Used.{used_flow}
+use Rattle.delay.specs.AcceptedFlows.{good_at}
+use Rattle.delay.specs.PairGrids.{conflict_of}
 
 -- the kinds of nodes: numbers below 512 are each of their own kind, and so are numbers alike modulo 256
 abbrev pub kind_of : ℕ → ℕ
@@ -104,3 +110,10 @@ work_ends k l h x e =
     ap (λ (y : ℕ). l.tries * y)
     (e ∙ sum_ext (λ i. bit (end_on l.route (exact k).route i)) (λ i. bit (touches (exact k) (exact l) i)) (links l)
     (λ i b. ap bit (sym (meet_ends l.route l.nodes h i (omega arith) (exact k).route))))
+
+-- so they give S of two flows of an accepted set
+pub conflict_law : (s : FlowSet) → Accepted (used s) → (k l : ℕ) → k < s.count → l < s.count → length (flow_at s l).route ≡ most_nodes
+    → (flow_at s l).tries * ends_on (flow_at s l).route (take (flow_at s k).nodes (flow_at s k).route) (links (flow_at s l)) ≡ conflict_of (used s) k l
+conflict_law s a k l h j w =
+    let n = (good_at s a l j).nodes_le in
+    work_ends (flow_at s k) (flow_at s l) (omega arith) _ refl ∙ sym (ap₂ conflict_work (used_flow s k h) (used_flow s l j))

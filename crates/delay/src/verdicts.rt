@@ -3,112 +3,104 @@ ghost use Rattle.std.specs.Prelude.{◌≡◌, ◌<◌, ◌≤◌, min, ◌-ℤ�
 ghost use Rattle.model.specs.Sets.{used};
 ghost use Rattle.document.specs.Delay.{admits, bounds_if, bounds_of, verdict_of};
 ghost use Rattle.model.specs.Limits.{most_flows};
-ghost use Rattle.delay.specs.AllBounds.{AllBoundsOf};
+ghost use Rattle.delay.specs.AllBounds.{AllBoundsAnswer, AllBoundsOf};
 ghost use Rattle.model.specs.Refusals.{good};
 ghost use Rattle.document.specs.Reader.{record_fault};
 
-use model::{Bounds, Fault, Flow, FlowSet, Refusal, Verdict};
-
-// The smaller of a number and the largest signed one.
-fn signed_most(x: u32) -> u32
-    ensures { (result ≡ min x 2147483647) × (result ≤ 2147483647) }
-{
-    if x < 2147483647 { x } else { 2147483647 }
-}
+use crate::equation::Values;
+use model::{Bounds, Fault, FlowSet, Refusable, Refusal, Verdict};
 
 // Deadline less tightened bound, signed. A bound above the largest signed number, which no set has, counts as that number.
 fn margin(deadline: u16, bound: u32) -> i32
     ensures { result ≡ pos deadline -ℤ pos (min bound 2147483647) }
 {
-    let b = signed_most(bound);
+    let b = bound.min(i32::MAX as u32);
     (deadline as i32) - (b as i32)
 }
 
-// Both bounds of every flow and the number of rounds, 0 beyond the last flow.
+// Both bounds of every flow of an accepted set and the number of rounds, 0 beyond the last flow.
+// Kept: two lists and not one of pairs, since each is made and judged as a whole.
 #[derive(Clone, Copy)]
 pub struct AllBounds {
-    pub fault: Fault,
-    pub basic: [u32; Flow::MOST],
-    pub tightened: [u32; Flow::MOST],
+    pub basic: Values,
+    pub tightened: Values,
     pub rounds: u32,
 }
 
-// Whether two tests hold.
-fn both(a: bool, b: bool) -> bool
-    ensures { result ≡ (a && b) }
-{
-    if a { b } else { false }
-}
-
 // A test admits when every bound is at most its deadline.
-pub fn admits(s: FlowSet, bound: [u32; Flow::MOST]) -> bool
-    requires { s.count ≤ most_flows }
-    ensures { result ≡ admits (used s) (λ k. get_or bound k 0) }
+pub fn admits(s: &FlowSet, bound: &Values) -> bool
+    requires { s.now.count ≤ most_flows }
+    ensures { result ≡ admits (used s.now) (λ k. get_or bound.now k 0) }
 {
-    let n = s.count as usize;
-    let mut all = true;
-    let mut k: usize = 0;
-    while k < n {
-        let f = s.flows[k];
-        let x = bound[k];
-        all = both(all, f.deadline.keeps(x));
-        k += 1;
+    for k in 0..s.count as usize {
+        if !s.flows[k].deadline.keeps(bound[k]) {
+            return false;
+        }
     }
-    all
+    true
 }
 
-// The verdicts of both tests and the number of rounds, from the bounds of all flows; zeros and "no" for a set that the record check
-// refuses.
-pub fn verdict_of(s: FlowSet, all: AllBounds) -> Verdict
-    requires { AllBoundsOf (used s) all }
+impl AllBounds {
+    // The verdicts of both tests and the number of rounds of the set whose bounds these are.
+    pub fn verdict(&self, s: &FlowSet) -> Verdict
+        requires { AllBoundsOf (used s.now) self.now }
+        ensures { result ≡ verdict_of (used s.now) }
+    {
+        Verdict {
+            fault: Fault::none(),
+            basic: admits(s, &self.basic),
+            tightened: admits(s, &self.tightened),
+            rounds: self.rounds,
+        }
+    }
+
+    // The bounds of a flow that there is.
+    fn bounds_at(&self, s: &FlowSet, k: usize) -> Bounds
+        requires { (k < s.now.count) × AllBoundsOf (used s.now) self.now }
+        ensures { result ≡ bounds_if (used s.now) k true }
+    {
+        let f = s.flows[k];
+        let tightened = self.tightened[k];
+        Bounds {
+            fault: Fault::none(),
+            work: f.work(),
+            basic: self.basic[k],
+            tightened,
+            deadline: f.deadline,
+            margin: margin(f.deadline.0, tightened),
+        }
+    }
+
+    // C, both bounds, deadline and margin of one flow; 13 where there is no such flow.
+    pub fn bounds(&self, s: &FlowSet, k: u16) -> Bounds
+        requires { AllBoundsOf (used s.now) self.now }
+        ensures { result ≡ bounds_of (used s.now) k }
+    {
+        if s.count <= k {
+            return Bounds::refused(Fault::of(Refusal::NoSuchFlow));
+        }
+        self.bounds_at(s, k as usize)
+    }
+}
+
+// The verdicts of both tests and the number of rounds, from what `all_bounds` answers; zeros and "no" for a set that the record check refuses.
+pub fn verdict_of(s: FlowSet, all: Result<AllBounds, Fault>) -> Verdict
+    requires { AllBoundsAnswer (used s) all }
     ensures { result ≡ verdict_of (used s) }
 {
-    let fault = all.fault;
-    if fault.refuses() {
-        return Verdict::refused(fault);
-    }
-    let basic = all.basic;
-    let tightened = all.tightened;
-    Verdict {
-        fault,
-        basic: admits(s, basic),
-        tightened: admits(s, tightened),
-        rounds: all.rounds,
+    match all {
+        Ok(all) => all.verdict(&s),
+        Err(fault) => Verdict::refused(fault),
     }
 }
 
-// One flow's bounds, from those of all.
-fn bounds_at(s: FlowSet, k: usize, all: AllBounds) -> Bounds
-    requires s_value { good (record_fault (used s)).refusal ≡ true }
-    requires k_lt_count { (k < s.count) × AllBoundsOf (used s) all }
-    ensures { result ≡ bounds_if (used s) k true }
-{
-    let f = s.flows[k];
-    let basic = all.basic[k];
-    let tightened = all.tightened[k];
-    let deadline = f.deadline;
-    let fault = all.fault;
-    Bounds {
-        fault,
-        work: f.work(),
-        basic,
-        tightened,
-        deadline,
-        margin: margin(deadline.0, tightened),
-    }
-}
-
-// C, both bounds, deadline and margin of one flow, from the bounds of all. The record check's refusals come first, then 13.
-pub fn bounds_of(s: FlowSet, k: u16, all: AllBounds) -> Bounds
-    requires { AllBoundsOf (used s) all }
+// C, both bounds, deadline and margin of one flow, from what `all_bounds` answers. The record check's refusals come first, then 13.
+pub fn bounds_of(s: FlowSet, k: u16, all: Result<AllBounds, Fault>) -> Bounds
+    requires { AllBoundsAnswer (used s) all }
     ensures { result ≡ bounds_of (used s) k }
 {
-    let fault = all.fault;
-    if fault.refuses() {
-        return Bounds::refused(fault);
+    match all {
+        Ok(all) => all.bounds(&s, k),
+        Err(fault) => Bounds::refused(fault),
     }
-    if s.count <= k {
-        return Bounds::refused(Fault::of(Refusal::NoSuchFlow));
-    }
-    bounds_at(s, k as usize, all)
 }

@@ -1,15 +1,8 @@
 -- `bounds`: the answer for all flows gives it, and what the rounds reach is the greatest list. Assumes nothing.
-use Prim.{tt}
 use Rattle.model.specs.Sets.{used}
 use Rattle.delay.specs.GreatestAnswers.{bounds_greatest}
 use Rattle.delay.proofs.bounds.Goals as goal
 
-pub bounds_of-requires : goal.bounds_of-requires
-bounds_of-requires c = c.all_bounds-all.ensures
-
 pub returns : goal.returns
 returns c =
     let e = c.bounds_of.ensures in record { answer = e; greatest = λ h. bounds_greatest (used c.args.s) c.args.k _ e h }
-
-pub all_bounds-all-requires : goal.all_bounds-all-requires
-all_bounds-all-requires c = tt

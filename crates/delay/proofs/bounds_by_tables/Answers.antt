@@ -2,7 +2,6 @@
 use Prim.Native.Nat.{◌<◌}
 use native.Mathlib.Omega.{arith}
 use Rattle.model.specs.Sets.{used}
-use Rattle.delay.specs.DelayTables.{tables_of}
 use Rattle.delay.specs.EquationValues.{sums_fit_carried}
 use Rattle.delay.specs.BoundsReached.{basic_carried, tight_carried, values_ext}
 use Rattle.laws.specs.Accepted.{ones_pos}
@@ -11,34 +10,28 @@ use Rattle.delay.proofs.bounds_by_tables.Goals as goal
 pub values-basic-requires : goal.values-basic-requires
 unfolding used
 values-basic-requires c =
-    let a = c.requires.accepted.0 in
-    let m : 0 < c.ways-m.result = omega (arith, ones_pos c.args.s.map.0 a.some_channel) in
-    record { n_le_most_flows = (a.count_le, m); sums_fit_to = sums_fit_carried (used c.args.s) a.count_le _ c.requires.tables_hold_is }
-
-pub rounds-end-requires : goal.rounds-end-requires
-unfolding used
-rounds-end-requires c =
-    record { accepted = c.requires.accepted.0; tables_hold_is = c.requires.tables_hold_is; deadlines_of = c.requires.accepted.1 }
+    let a = c.requires.0 in
+    let m : 0 < c.ways-m.result = omega (arith, ones_pos c.args.s.now.map.0 a.some_channel) in
+    record { n_le_most_flows = (a.count_le, m); sums_fit_to = sums_fit_carried (used c.args.s.now) a.count_le _ c.requires.1 }
 
 pub values-tightened-requires : goal.values-tightened-requires
 unfolding used
 values-tightened-requires c =
-    let a = c.requires.accepted.0 in
-    let m : 0 < c.ways-m.result = omega (arith, ones_pos c.args.s.map.0 a.some_channel) in
-    record { n_le_most_flows = (a.count_le, m); sums_fit_to = sums_fit_carried (used c.args.s) a.count_le _ c.requires.tables_hold_is }
+    let a = c.requires.0 in
+    let m : 0 < c.ways-m.result = omega (arith, ones_pos c.args.s.now.map.0 a.some_channel) in
+    record { n_le_most_flows = (a.count_le, m); sums_fit_to = sums_fit_carried (used c.args.s.now) a.count_le _ c.requires.1 }
 
 pub returns : goal.returns
 unfolding used
 returns c =
-    let u = used c.args.s in
-    let t = tables_of c.args.conflict.now c.args.remainder.now c.args.work.now c.args.whole_conflict.now c.args.whole_work.now in
-    let n = c.requires.accepted.0.count_le in
-    let o = c.requires.tables_hold_is in
+    let u = used c.args.s.now in
+    let t = c.args.tables.now in
+    let n = c.requires.0.count_le in
+    let o = c.requires.1 in
     let e = c.ways-m.ensures in
     let r = c.rounds-end.ensures in
     record {
-      fault = c.none.ensures;
       basics = values_ext _ _ _ _ (basic_carried u n t o _ e) c.values-basic.ensures;
-      tights = values_ext _ _ _ _ (tight_carried u n t o _ e _ c.requires.accepted.1.entries _ r.slack_within r.rounds_value.1) c.values-tightened.ensures;
+      tights = values_ext _ _ _ _ (tight_carried u n t o _ e _ r.slack_within r.rounds_value.1) c.values-tightened.ensures;
       rounds = r.rounds_value.0;
     }

@@ -1,53 +1,43 @@
-use mathlib.Core.Path.{ap, ◌∙◌}
-use Prim.Native.Nat.{ℕ, ◌*◌, ◌<◌}
-use lib.ListN.{get_or}
-use native.Mathlib.Nat.{lt_of_le_of_lt, le_trans, le_of_eq, mul-le-mul}
+use mathlib.Core.Path.{refl, ap₂, ◌∙◌}
+use mathlib.Core.List.{List}
+use Prim.Native.Nat.{ℕ, ◌*◌}
+use native.Mathlib.Nat.{lt_of_le_of_lt, mul-le-mul}
 use native.Mathlib.Omega.{arith}
 use lib.Dec.{lit<}
+use lib.ListN.{take}
+use Rattle.model.specs.Sets.{flow_at, links}
+use Rattle.delay.specs.AcceptedFlows.{count_at_law, good_at}
 use Rattle.delay.specs.PairGrids.{row_start, row_next}
-use Rattle.laws.specs.Loops.{begins, goes_on, ends}
-use borrow.Author.Rules.{rules}
+use Rattle.delay.specs.RoutePlaces.{conflict_law, ends_on}
 use Rattle.delay.proofs.conflicts.conflict_row.Goals as goal
 
-pub first_places-places-requires : goal.first_places-places-requires
-first_places-places-requires c =
-    omega (arith, c.table_entry-nodes.ensures.0, c.requires.2.links_le c.args.k c.requires.0)
+pub offset_bounds-s-k : goal.offset_bounds-s-k
+offset_bounds-s-k c = omega (arith, count_at_law c.args.s.now c.requires.accepted)
+
+pub bounds-s-k : goal.bounds-s-k
+bounds-s-k c = omega (arith, count_at_law c.args.s.now c.requires.accepted)
+
+pub of-mine-requires : goal.of-mine-requires
+of-mine-requires c = (good_at c.args.s.now c.requires.accepted c.args.k (omega arith)).nodes_le
 
 pub loop-l-init : goal.loop-l-init
-loop-l-init c =
-    let p = c.requires in
-    begins (p.2.few, row_start _ _ _ p.1)
+loop-l-init c = (omega (arith, count_at_law c.args.s.now c.requires.accepted), row_start _ _ _ c.requires.small.2)
 
-pub links_touched-touched-requires : goal.links_touched-touched-requires
-links_touched-touched-requires c =
-    let h : c.loop-l.l < c.args.n = search rules in
-    let o = c.requires.2 in (
-      omega (arith, c.table_entry-nodes.ensures.0, o.links_le c.args.k c.requires.0),
-      omega (arith, o.few),
-      omega (arith, c.table_entry.ensures.0, o.links_le c.loop-l.l h),
-      o.long c.args.k c.requires.0,
-      c.first_places-places.ensures,
-    )
+pub links_touched-requires : goal.links_touched-requires
+links_touched-requires c = (good_at c.args.s.now c.requires.accepted c.loop-l.l (omega arith)).nodes_le
 
-pub times-requires : goal.times-requires
-times-requires c =
-    let h : c.loop-l.l < c.args.n = search rules in
-    let few = c.requires.2.tries_le c.loop-l.l h in
-    (omega arith, omega (arith, c.links_touched-touched.ensures.1))
-
-pub overflow_cast-t : goal.overflow_cast-t
-overflow_cast-t c =
-    let h : c.loop-l.l < c.args.n = search rules in
-    let most = mul-le-mul (c.requires.2.tries_le c.loop-l.l h) c.links_touched-touched.ensures.1 in
-    record { fits = lt_of_le_of_lt (le_trans (le_of_eq c.times.ensures.0) most) (lit< tt) }
+pub overflow_mul-t : goal.overflow_mul-t
+overflow_mul-t c =
+    let tries = (good_at c.args.s.now c.requires.accepted c.loop-l.l (omega arith)).tries_le in
+    record { fits = lt_of_le_of_lt (mul-le-mul tries c.links_touched.ensures.small.0) (lit< tt) }
 
 pub loop-l-preserved : goal.loop-l-preserved
 loop-l-preserved c =
-    let k = c.table_entry-nodes.ensures.0 in
-    let l = c.table_entry.ensures.0 in
-    let s = ap (λ (x : ℕ). get_or c.args.tries.now c.loop-l.l 0 * x) (rw (l, k) at c.links_touched-touched.ensures.0) in
-    let d = row_next _ _ c.args.k _ _ _ (omega arith) (omega arith) c.loop-l.invariant.holds.1 (c.times.ensures.0 ∙ s) in
-    goes_on (search rules) (c.loop-l.invariant.holds.0, d)
-
-pub returns : goal.returns
-returns c = (ends c.loop-l.invariant c.loop-l-test.false).1
+    let s = c.args.s.now in
+    let k = c.args.k in
+    let l = c.loop-l.l in
+    let it = flow_at s l in
+    let mine = c.of-mine.ensures in
+    let touched = c.links_touched.ensures.touched ∙ ap₂ (λ (n : ℕ) (r : List ℕ). ends_on it.route (take n r) (links it)) mine.0 mine.1 in
+    let work = ap₂ (λ (x y : ℕ). x * y) refl touched ∙ conflict_law s c.requires.accepted k l (omega arith) (omega arith) c.links_touched.ensures.small.1 in
+    (c.loop-l.invariant.0, row_next _ l k _ _ _ (omega arith) (omega arith) c.loop-l.invariant.1 work)

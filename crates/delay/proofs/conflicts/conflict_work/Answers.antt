@@ -1,16 +1,13 @@
--- `conflict_work`: S by the arrays is S of the set. Assumes nothing beyond its `requires`.
-use Rattle.delay.specs.PairGrids.{columns_of, columns_le}
-use Rattle.delay.specs.RouteLists.{listed_start, listed_blank, listed_rows}
+use native.Mathlib.Nat.{le_trans}
+use native.Mathlib.Omega.{arith}
+use Rattle.delay.specs.AcceptedFlows.{count_at_law}
+use Rattle.delay.specs.PairGrids.{columns_of, columns_le, rows_next}
 use Rattle.delay.proofs.conflicts.conflict_work.Goals as goal
 
-pub list_routes-requires : goal.list_routes-requires
-list_routes-requires c = (c.requires.0, listed_start _)
-
-pub conflict_rows-requires : goal.conflict_rows-requires
-conflict_rows-requires c =
-    listed_blank c.args.s c.requires.0 _ _ _ c.list_routes.ensures (columns_of c.args.below c.args.s.count) _ c.requires.1
-
-pub returns : goal.returns
-returns c =
-    let n = c.args.s.count in
-    listed_rows c.args.s c.requires.0 _ _ _ c.list_routes.ensures (columns_of c.args.below n) _ (columns_le c.args.below n) c.conflict_rows.ensures
+pub loop-k-preserved : goal.loop-k-preserved
+loop-k-preserved c =
+    let n = c.args.s.now.count in
+    let few = count_at_law c.args.s.now c.requires.0 in
+    let h = c.loop-k-test.true in
+    rows_next _ (columns_of c.args.columns n) _ _ _ (λ i j. le_trans (columns_le c.args.columns n i (omega arith)) few)
+    c.loop-k.invariant (rw c.count.ensures at c.conflict_row.ensures)

@@ -14,7 +14,7 @@ below c = c.loop-l-test.true
 
 -- and counts their packets in k's window
 packets_of_k : (c : After-packets_first-n)
-    → c.packets_first-n.result ≡ packets_by c.args.period.now c.args.deadline.now c.args.bound.now c.args.k c.loop-l.l
+    → c.packets_first-n.result ≡ packets_by c.args.numbers.now c.args.bound.now c.args.k c.loop-l.l
 packets_of_k c = c.packets_first-n.ensures
 
 pub packets_first-n-requires : goal.packets_first-n-requires
@@ -27,30 +27,21 @@ work_of_packets-x-requires c =
     let o = c.requires.1 in
     let n = packets_of_k c.before.before.before in
     let h = c.loop-l-test.true in
-    le_trans (conflict_small _ _ _ _ _ _ _ o h _ n) (share_small _ _ _ _ _ _ _ o h _ n)
-
-pub overflow_add-x : goal.overflow_add-x
-overflow_add-x c =
-    let s = c.loop-l.invariant.holds in
-    omega (arith, c.requires.0, c.loop-l.invariant.within, s.conflict_le, s.whole_le, c.work_of_packets-x.ensures.1)
+    le_trans (conflict_small _ _ _ _ _ o h _ n) (share_small _ _ _ _ _ o h _ n)
 
 pub work_of_packets-w-requires : goal.work_of_packets-w-requires
 work_of_packets-w-requires c =
-    share_small _ _ _ _ _ _ _ c.requires.1 c.loop-l-test.true _ c.packets_first-n.ensures
-
-pub overflow_add-w : goal.overflow_add-w
-overflow_add-w c =
-    omega (arith, c.requires.0, c.loop-l.invariant.within, c.loop-l.invariant.holds.whole_le, c.work_of_packets-w.ensures.1)
+    share_small _ _ _ _ _ c.requires.1 c.loop-l-test.true _ c.packets_first-n.ensures
 
 pub loop-l-preserved : goal.loop-l-preserved
 loop-l-preserved c =
     let h = c.loop-l-test.true in
     goes_on h
-    (first_sums_next _ _ _ _ _ _ _ c.requires.1 h _ c.packets_first-n.ensures _ _ _ _
+    (first_sums_next _ _ _ _ _ c.requires.1 h _ c.packets_first-n.ensures _ _ _ _
     c.loop-l.invariant.holds c.work_of_packets-x.ensures.0 c.work_of_packets-w.ensures.0)
+
+pub loop-l-init : goal.loop-l-init
+loop-l-init c = begins (first_sums_start _ _ _ _)
 
 pub returns : goal.returns
 returns c = ends c.loop-l.invariant (omega (arith, c.loop-l-test.false))
-
-pub loop-l-init : goal.loop-l-init
-loop-l-init c = begins (first_sums_start _ _ _ _ _ _)

@@ -1,59 +1,47 @@
-use mathlib.Core.Path.{refl, sym}
-use mathlib.Core.Bool.{false}
+use mathlib.Core.Path.{sym}
 use Prim.Native.Nat.{◌<◌}
 use native.Mathlib.Omega.{arith}
 use Rattle.model.specs.Sets.{used}
-use Rattle.laws.specs.Rounds.{accepted_fits}
-use Rattle.delay.specs.EquationValues.{sums_fit_carried}
-use Rattle.delay.specs.OneRound.{list_of_slack}
-use Rattle.delay.specs.RoundsReached.{RoundsGoing, going_start, going_next, most_small, deadlines_carried, zero_slack}
 use Rattle.laws.specs.Accepted.{ones_pos}
+use Rattle.delay.specs.EquationValues.{sums_fit_carried}
+use Rattle.delay.specs.RoundsReached.{going_start, most_small, round_after, deadlines_carried, zero_slack}
 use Rattle.delay.proofs.rounds.rounds.Goals as goal
 
-pub loop-going-init : goal.loop-going-init
+pub loop-changes-init : goal.loop-changes-init
 unfolding used
-loop-going-init c =
-    let u = used c.args.s in
-    (zero_slack c.args.deadline.now c.args.s.count, rw (deadlines_carried u c.args.deadline.now c.requires.deadlines_of.entries) (going_start u))
+loop-changes-init c =
+    let u = used c.args.s.now in
+    let t = c.args.tables.now in
+    (zero_slack t.numbers.deadline c.args.s.now.count, rw (deadlines_carried u t.numbers.deadline c.requires.1.numbers.deadlines) (going_start u))
 
-pub one_round-r-requires : goal.one_round-r-requires
+pub one_round-requires : goal.one_round-requires
 unfolding used
-one_round-r-requires c =
-    let a = c.requires.accepted in
-    let m : 0 < c.ways-m.result = omega (arith, ones_pos c.args.s.map.0 a.some_channel) in record { n_le_most_flows = (a.count_le, m, c.loop-going.invariant.0); sums_fit_to = sums_fit_carried (used c.args.s) a.count_le _ c.requires.tables_hold_is }
+one_round-requires c =
+    let a = c.requires.0 in
+    let m : 0 < c.ways-m.result = omega (arith, ones_pos c.args.s.now.map.0 a.some_channel) in
+    record { n_le_most_flows = (a.count_le, m, c.loop-changes.invariant.0); sums_fit_to = sums_fit_carried (used c.args.s.now) a.count_le _ c.requires.1 }
 
-pub overflow_add-count : goal.overflow_add-count
+pub overflow_add-changes : goal.overflow_add-changes
 unfolding used
-overflow_add-count c =
-    let g = rw c.loop-going-test.true at c.loop-going.invariant.1 in
-    omega (arith, g.1, most_small (used c.args.s) c.requires.accepted.count_le c.requires.deadlines_of.small)
+overflow_add-changes c =
+    omega (arith, c.loop-changes.invariant.1.1, most_small (used c.args.s.now) c.requires.0.count_le c.requires.1.numbers.deadlines_le)
 
-pub loop-going-smaller : goal.loop-going-smaller
+pub loop-changes-preserved : goal.loop-changes-preserved
 unfolding used
-loop-going-smaller c =
-    let g = rw c.loop-going-test.true at c.loop-going.invariant.1 in
-    omega (arith, g.1)
+loop-changes-preserved c =
+    let r = c.one_round.ensures in
+    let going = round_after (used c.args.s.now) c.requires.0 c.args.tables.now c.requires.1 _ c.ways-m.ensures _ _ _ _ c.loop-changes.invariant.1 r.round_for in
+    (r.slack_within, rw c.loop-changes-test.true at going)
 
-pub loop-going-preserved : goal.loop-going-preserved
+pub overflow_add-result : goal.overflow_add-result
 unfolding used
-loop-going-preserved c =
-    let a = c.requires.accepted in
-    let u = used c.args.s in
-    let r = c.one_round-r.ensures in (
-      r.slack_within,
-      going_next u (accepted_fits u a) c.loop-going.count _ _ _ (rw c.loop-going-test.true at c.loop-going.invariant.1)
-          (r.round_for u record {
-            tables = c.requires.tables_hold_is;
-            deadlines = c.requires.deadlines_of.entries;
-            count = refl;
-            channels = sym c.ways-m.ensures;
-            most = a.count_le;
-          }),
-    )
+overflow_add-result c =
+    omega (arith, c.loop-changes.invariant.1.1, most_small (used c.args.s.now) c.requires.0.count_le c.requires.1.numbers.deadlines_le)
 
-pub returns : goal.returns
+pub returns-clause-rounds_value : goal.returns-clause-rounds_value
 unfolding used
-returns c =
-    let s = c.args in
-    let g : RoundsGoing (used s.s) false c.loop-going.count (list_of_slack s.deadline.now c.loop-going.slack s.s.count) =
-    rw c.loop-going-test.false at c.loop-going.invariant.1 in record { rounds_value = (sym g.2, sym g.1); slack_within = c.loop-going.invariant.0 }
+returns-clause-rounds_value c =
+    let r = c.one_round.ensures in
+    let going = round_after (used c.args.s.now) c.requires.0 c.args.tables.now c.requires.1 _ c.ways-m.ensures _ _ _ _ c.loop-changes.invariant.1 r.round_for in
+    let over = rw c.loop-changes-test.false at going in
+    (sym over.2, sym over.1)

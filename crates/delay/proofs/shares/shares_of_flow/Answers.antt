@@ -11,12 +11,12 @@ returns c =
     let d = c.divide.ensures in
     let p = c.requires in
     let s = p.small_work.1 in
-    let whole = own_whole a.k a.n a.deadline a.period.now _ _ _ _ p.k_lt_n.0 p.k_lt_n.1 d s in
-    let zero = own_zero_from a.k a.n a.deadline a.period.now _ _ _ _ p.k_lt_n.0 p.k_lt_n.1 d s in
-    let row = own_row a.k a.n a.deadline a.period.now _ _ _ _ p.k_lt_n.0 p.k_lt_n.1 d in
+    let whole = own_whole a.k a.n a.numbers.now _ _ _ _ p.k_lt_n.0 p.k_lt_n.1 d s in
+    let zero = own_zero_from a.k a.n a.numbers.now _ _ _ _ p.k_lt_n.0 p.k_lt_n.1 d s in
+    let row = own_row a.k a.n a.numbers.now _ _ _ _ p.k_lt_n.0 p.k_lt_n.1 d in
     let w = c.packet_sums.ensures in
     record {
       zero_from = (zero, row);
       conflict_value = w.conflict_value ∙ whole (λ l. pair_at a.conflict.now a.k l);
-      work_value = (w.work_value.0 ∙ whole (λ l. get_or a.work.now l 0), w.work_value.1);
+      work_value = (w.work_value.0 ∙ whole (λ l. get_or a.numbers.now.work l 0), w.work_value.1);
     }

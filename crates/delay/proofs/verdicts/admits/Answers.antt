@@ -1,28 +1,30 @@
-use mathlib.Core.Path.{sym, ap, ap₂, ◌∙◌}
+use mathlib.Core.Path.{◌≡◌, sym, ap₂, ◌∙◌}
 use mathlib.Core.Bool.{Bool, ◌&&◌}
-use Prim.Native.Nat.{◌<◌}
-use lib.Dec.{leb}
+use native.Mathlib.Omega.{arith}
 use lib.ListN.{get_or}
-use Rattle.model.specs.declared.kinds.Flow.{Flow}
 use Rattle.model.specs.Sets.{used}
 use Rattle.document.specs.Delay.{admits}
-use Rattle.laws.specs.Used.{used_flow}
-use Rattle.delay.specs.VerdictAnswers.{all_zero, all_next}
-use Rattle.laws.specs.Loops.{begins, goes_on, ends}
-use borrow.Author.Rules.{rules}
+use Rattle.delay.specs.VerdictAnswers.{all_zero, all_next, all_not, keeps_entry}
 use Rattle.delay.proofs.verdicts.admits.Goals as goal
 
 pub loop-k-init : goal.loop-k-init
-loop-k-init c = begins (search rules, sym (all_zero _))
+loop-k-init c = all_zero _
 
 pub loop-k-preserved : goal.loop-k-preserved
 loop-k-preserved c =
-    let b = c.args in
-    let h : c.loop-k.k < b.s.count = c.loop-k-test.true in
-    let e = ap (λ (f : Flow). leb (get_or b.bound c.loop-k.k 0) f.deadline.0) (used_flow b.s c.loop-k.k h) in
-    let so_far = ap₂ (λ (x y : Bool). x && y) c.loop-k.invariant.holds.1 (c.keeps.ensures ∙ sym e) in
-    goes_on h (c.loop-k.invariant.holds.0, c.both-all.ensures ∙ so_far ∙ sym (all_next _ c.loop-k.k))
+    let k = c.loop-k.k in
+    let e = keeps_entry c.args.s.now (λ i. get_or c.args.bound.now i 0) k c.loop-k-test.true in
+    all_next _ k ∙ ap₂ (λ (x y : Bool). x && y) c.loop-k.invariant (sym (c.keeps.ensures ∙ e) ∙ c.if-not-keeps.false)
+
+pub returns-then-not-keeps : goal.returns-then-not-keeps
+unfolding admits used
+returns-then-not-keeps c =
+    let k = c.loop-k.k in
+    let e = keeps_entry c.args.s.now (λ i. get_or c.args.bound.now i 0) k c.loop-k-test.true in
+    sym (all_not _ _ k c.loop-k-test.true (sym (c.keeps.ensures ∙ e) ∙ c.if-not-keeps.true))
 
 pub returns : goal.returns
 unfolding admits used
-returns c = (ends c.loop-k.invariant c.loop-k-test.false).1
+returns c =
+    let e : c.loop-k.k ≡ c.args.s.now.count = omega arith in
+    sym (rw e at c.loop-k.invariant)
