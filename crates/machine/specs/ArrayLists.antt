@@ -2,8 +2,9 @@
 use Rattle.std.specs.Prelude.{◌≡◌, refl, Bool, true, false, ◌||◌, cond, List, [], ◌∷◌, ◌++◌, ℕ, zero, suc, ◌+◌, ◌-◌, ◌≤◌, ◌<◌, eqb, ltb, length, get_or, take, drop, set, replicate}
 use Rattle.std.proofs.Common.{sym, ap, ap₂, ◌∙◌, append-nil, zero-le, le_refl, add-one, arith, eqb-true, lt-ltb, le-ltb, length-append, length-set, length-take, drop_of_length-le, get_or-set_same, get_or-set_other, take-suc, take-suc-set, ext_get_or, length-take-le, drop-cons, get_or-take, drop-set-lt, drop-drop}
 use Rattle.std.proofs.Math.Bool.{or-false}
+use Rattle.std.proofs.lemmas.Bool.{eqb-false}
 use Rattle.std.proofs.Math.Decide.{dec_le}
-use Rattle.std.proofs.lemmas.List.{length-replicate, get_or_at}
+use Rattle.std.proofs.lemmas.List.{length-replicate, get_or_at, set_past}
 use Rattle.std.proofs.Math.ListN.{get_or-append}
 use Rattle.std.proofs.Math.Seq.{take-append-add, set-append_seam, append_snoc, take-set-lt}
 use Rattle.document.specs.Machine.{filled}
@@ -31,18 +32,6 @@ through_next f n old new x h e t =
         | no d ↦ get_or-set_other new n k x 0 (λ q. omega arith) ∙ t.below k (omega arith)
       ];
       above = λ k l. get_or-set_other new n k x 0 (λ q. omega arith) ∙ t.above k (omega arith);
-    }
-
--- an entry that is f's already may stay
-pub through_stay : (f : ℕ → ℕ) (n : ℕ) (old new : List ℕ) → get_or old n 0 ≡ f n → Through f n old new → Through f (n + 1) old new
-through_stay f n old new e t =
-    record {
-      long = t.long;
-      below = λ k l. elim (dec_le n k) [
-        | yes d ↦ let q : k ≡ n = omega arith in rw q (t.above n (le_refl n) ∙ e)
-        | no d ↦ t.below k (omega arith)
-      ];
-      above = λ k l. t.above k (omega arith);
     }
 
 -- the same at an equal number of entries
@@ -194,11 +183,15 @@ get_or_zeros (suc n) zero = refl
 get_or_zeros (suc n) (suc k) = get_or_zeros n k
 
 -- entries within a bound, and one more
-pub set_le : (l : List ℕ) (k x m : ℕ) → k < length l → ((j : ℕ) → j < k → get_or l j 0 ≤ m) → x ≤ m → (j : ℕ) → j < k + 1 → get_or (set l k x) j 0 ≤ m
-set_le l k x m h a b j i = elim (dec_le k j) [
-  | yes d ↦ let e : j ≡ k = omega arith in rw (e, get_or-set_same l k x 0 h) b
-  | no d ↦ rw (get_or-set_other l k j x 0 (λ e. omega arith)) (a j (omega arith))
+pub set_le : (l : List ℕ) (k x m : ℕ) → ((j : ℕ) → get_or l j 0 ≤ m) → x ≤ m → (j : ℕ) → get_or (set l k x) j 0 ≤ m
+set_le l k x m a b j = elim (dec_le (length l) k) [
+  | yes d ↦ rw (set_past l k x d) (a j)
+  | no d ↦ go (eqb j k) refl d
 ]
+  where
+    go : (c : Bool) → eqb j k ≡ c → (length l ≤ k → ⊥) → get_or (set l k x) j 0 ≤ m
+    go true e d = rw (eqb-true j k e, get_or-set_same l k x 0 (omega arith)) b
+    go false e d = rw (get_or-set_other l k j x 0 (eqb-false j k e)) (a j)
 
 -- entries that stay from n on stay from a later place on
 pub drop_more {ℓ} : {A : Type ℓ} (n m : ℕ) (a b : List A) → n ≤ m → drop n a ≡ drop n b → drop m a ≡ drop m b

@@ -1,12 +1,9 @@
--- Arrays that are lent together, each group as one record of lists. A clause builds the record of what is lent (`.now`, or `.old` of
--- what may be written) or of what is left (`.new`); definitions and laws speak of the record.
-use Rattle.std.specs.Prelude.{List, ℕ, length, ◌≡◌}
+-- Arrays that belong together, each group as one record of lists. Definitions and laws speak of the record; `Structs` makes it of the code's structs,
+-- of what is lent (`.now`, or `.old` of what may be written) or of what is left (`.new`).
+use Rattle.std.specs.Prelude.{List, ℕ, length, replicate, ◌≡◌}
 use Rattle.model.specs.Limits.{most_channels, most_flows}
 
--- an array with an entry for each flow that a set can have, and one with an entry for each packet that can be placed
-abbrev pub PerFlow : {A : Type 0} → List A → Type 0
-PerFlow l = length l ≡ most_flows
-
+-- an array with an entry for each packet that can be placed
 abbrev pub PerPlaced : {A : Type 0} → List A → Type 0
 PerPlaced l = length l ≡ most_channels
 
@@ -17,16 +14,14 @@ pub record Numbers : Type 0 where
   pub deadline : List ℕ
   pub work : List ℕ
 
-abbrev pub numbers_of : List ℕ → List ℕ → List ℕ → List ℕ → Numbers
-numbers_of start period deadline work = record { start = start; period = period; deadline = deadline; work = work }
+-- those of no flow
+abbrev pub no_numbers : Numbers
+no_numbers = let none : List ℕ = replicate most_flows 0 in record { start = none; period = none; deadline = none; work = none }
 
 -- what rule 3 takes each flow's links from: the tries of a link, and the route
 pub record Links : Type 0 where
   pub tries : List ℕ
   pub routes : List (List ℕ)
-
-abbrev pub links_of : List ℕ → List (List ℕ) → Links
-links_of tries routes = record { tries = tries; routes = routes }
 
 -- what rule 2 asks of each flow's packet: the start, the absolute deadline, what it has had, and C
 pub record Packets : Type 0 where
@@ -85,7 +80,3 @@ pub record SlotArrays : Type 0 where
   pub chosen : List ℕ
   pub marked : List ℕ
   pub placed : ℕ
-
-abbrev pub slot_arrays_of : Packets → List ℕ → Links → List ℕ → List ℕ → ℕ → SlotArrays
-slot_arrays_of packets deadline links chosen marked placed =
-    record { packets = packets; deadline = deadline; links = links; chosen = chosen; marked = marked; placed = placed }

@@ -1,4 +1,5 @@
 pub mod LentArrays
+pub mod Structs
 pub mod Channels
 pub mod PacketNumbers
 pub mod ArrayLists

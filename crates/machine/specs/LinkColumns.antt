@@ -1,8 +1,8 @@
 -- The links of a set's flows from arrays, and the classes of nodes by which most links need not be compared with the placed ones.
-use Rattle.std.specs.Prelude.{◌≡◌, refl, Bool, true, false, List, [], ◌∷◌, ℕ, ◌+◌, ◌-◌, ◌/◌, ◌%◌, ◌<◌, eqb, length, get_or, set}
-use Rattle.std.proofs.Common.{sym, ap, ◌∙◌, div-lt_iff_lt-mul, arith, ne_eqb, eqb-true, length-set, get_or-set_same, get_or-set_other}
+use Rattle.std.specs.Prelude.{◌≡◌, Bool, true, false, List, [], ◌∷◌, ℕ, ◌+◌, ◌-◌, ◌/◌, ◌%◌, ◌<◌, eqb, length, get_or, set}
+use Rattle.std.proofs.Common.{sym, ap, ◌∙◌, div-lt_iff_lt-mul, arith, ne_eqb, get_or-set_same, get_or-set_other}
 use Rattle.std.proofs.Math.Decide.{dec_le}
-use Rattle.std.proofs.lemmas.Bool.{eqb-false}
+use Rattle.std.proofs.lemmas.Bool.{false≢true}
 use Rattle.model.specs.declared.kinds.FlowSet.{FlowSet}
 use Rattle.model.specs.Refusals.{good}
 use Rattle.document.specs.Reader.{record_fault}
@@ -102,13 +102,13 @@ module _ (s : FlowSet) (links : Links) (h : good (record_fault (used s)).refusal
       (sym (link_ends (flow_at s k) (get_or sent k 0) g.tries_pos (omega (arith, r.long k counted, g.nodes_le)) short))
 
 -- the classes of the placed links' ends are marked
-pub record Busy (busy from to : List ℕ) (p : ℕ) : Type 0 where
-  pub froms : (j : ℕ) → j < p → get_or busy (get_or from j 0 % 256) 0 ≡ 1
-  pub tos : (j : ℕ) → j < p → get_or busy (get_or to j 0 % 256) 0 ≡ 1
+pub record Busy (busy : List Bool) (from to : List ℕ) (p : ℕ) : Type 0 where
+  pub froms : (j : ℕ) → j < p → get_or busy (get_or from j 0 % 256) false ≡ true
+  pub tos : (j : ℕ) → j < p → get_or busy (get_or to j 0 % 256) false ≡ true
   pub long : length busy ≡ 256
 
 -- so a link whose classes are not marked shares no node with them
-pub busy_free : (busy from to : List ℕ) (p a b : ℕ) → Busy busy from to p → get_or busy (a % 256) 0 ≡ 0 → get_or busy (b % 256) 0 ≡ 0
+pub busy_free : (busy : List Bool) (from to : List ℕ) (p a b : ℕ) → Busy busy from to p → get_or busy (a % 256) false ≡ false → get_or busy (b % 256) false ≡ false
     → clash_ends a b from to p ≡ false
 unfolding meet any_of
 busy_free busy from to p a b w e f =
@@ -120,42 +120,5 @@ busy_free busy from to p a b w e f =
       apart b (get_or to j 0) f (w.tos j h),
     ))
   where
-    apart : (x y : ℕ) → get_or busy (x % 256) 0 ≡ 0 → get_or busy (y % 256) 0 ≡ 1 → eqb x y ≡ false
-    apart x y g i = ne_eqb x y (λ q. omega (arith, sym g ∙ ap (λ (z : ℕ). get_or busy (z % 256) 0) q ∙ i))
-
-pub busy_none : (from to : List ℕ) (busy : List ℕ) → length busy ≡ 256 → Busy busy from to 0
-busy_none from to busy e = record { froms = λ j h. absurd (omega arith); tos = λ j h. absurd (omega arith); long = e }
-
--- one that is placed marks its own
-pub busy_more : (busy from to : List ℕ) (p a b : ℕ) → p < length from → p < length to → Busy busy from to p
-    → Busy (set (set busy (a % 256) 1) (b % 256) 1) (set from p a) (set to p b) (p + 1)
-busy_more busy from to p a b h k w =
-    record {
-      froms = λ j l. elim (dec_le p j) [
-        | yes d ↦ let q : j ≡ p = omega arith in
-            rw (q, get_or-set_same from p a 0 h)
-            (keeps (set busy (a % 256) 1) (b % 256) (a % 256) (in_long (b % 256) (omega arith)) (get_or-set_same busy (a % 256) 1 0 (rw w.long (omega arith))))
-        | no d ↦ rw (get_or-set_other from p j a 0 (λ q. omega arith)) (both (get_or from j 0 % 256) (w.froms j (omega arith)))
-      ];
-      tos = λ j l. elim (dec_le p j) [
-        | yes d ↦ let q : j ≡ p = omega arith in
-            rw (q, get_or-set_same to p b 0 k) (get_or-set_same (set busy (a % 256) 1) (b % 256) 1 0 (in_long (b % 256) (omega arith)))
-        | no d ↦ rw (get_or-set_other to p j b 0 (λ q. omega arith)) (both (get_or to j 0 % 256) (w.tos j (omega arith)))
-      ];
-      long = length-set (set busy (a % 256) 1) (b % 256) 1 ∙ length-set busy (a % 256) 1 ∙ w.long;
-    }
-  where
-    in_long : (x : ℕ) → x < 256 → x < length (set busy (a % 256) 1)
-    in_long x i = rw (length-set busy (a % 256) 1 ∙ w.long) i
-
-    keeps : (l : List ℕ) (x y : ℕ) → x < length l → get_or l y 0 ≡ 1 → get_or (set l x 1) y 0 ≡ 1
-    keeps l x y i e = go (eqb y x) refl
-      where
-        go : (b : Bool) → eqb y x ≡ b → get_or (set l x 1) y 0 ≡ 1
-        go true q = rw (eqb-true y x q) (get_or-set_same l x 1 0 i)
-        go false q = get_or-set_other l x y 1 0 (eqb-false y x q) ∙ e
-
-    both : (y : ℕ) → get_or busy y 0 ≡ 1 → get_or (set (set busy (a % 256) 1) (b % 256) 1) y 0 ≡ 1
-    both y e =
-        keeps (set busy (a % 256) 1) (b % 256) y (in_long (b % 256) (omega arith))
-        (keeps busy (a % 256) y (rw w.long (omega arith)) e)
+    apart : (x y : ℕ) → get_or busy (x % 256) false ≡ false → get_or busy (y % 256) false ≡ true → eqb x y ≡ false
+    apart x y g i = ne_eqb x y (λ q. false≢true (sym g ∙ ap (λ (z : ℕ). get_or busy (z % 256) false) q ∙ i))

@@ -1,8 +1,7 @@
 -- A run on its way: its arrays just before a slot, for any set whose numbers they are, and what a slot makes of them.
-use Rattle.std.specs.Prelude.{◌≡◌, refl, List, ℕ, ◌+◌, ◌≤◌, ◌<◌, ◌^◌, get_or, length, replicate}
+use Rattle.std.specs.Prelude.{◌≡◌, refl, List, ℕ, ◌+◌, ◌≤◌, ◌<◌, get_or, length, replicate}
 use Rattle.std.proofs.Common.{sym, ap, ◌∙◌, zero-le, arith, add-zero}
 use Rattle.std.specs.Int.Count.{ones}
-use Rattle.std.proofs.lemmas.Nat.{ones-le}
 use Rattle.model.specs.declared.kinds.ChannelMap.{ChannelMap}
 use Rattle.model.specs.declared.kinds.FlowSet.{FlowSet}
 use Rattle.model.specs.declared.kinds.Order.{Order}
@@ -39,21 +38,21 @@ pub record RunSoFar (by : Order) (s : FlowSet) (fault : Fault) (count m t : ℕ)
   pub ran : RanTo by s fault (state_at t run.sent) counts.delivered counts.dropped t
 
 -- an accepted set's run before its first slot
-pub run_before_first : (by : Order) (s : FlowSet) (fault : Fault) (m : ℕ) (numbers : Numbers) (links : Links) (due : List ℕ) → m ≡ ones s.map.0
-    → s.map.0 < 2 ^ most_channels → AfterNumbers s numbers → Routes s links → fault ≡ record_fault (used s) → length numbers.start ≡ most_flows
-    → Through (due_by numbers.start numbers.period numbers.deadline 0) s.count (replicate most_flows 0) due
-    → RunSoFar by s fault s.count m 0 (counts_of 0 0) numbers links (run_arrays_of due numbers.start (replicate most_flows 0) (replicate most_flows 0) 0 0)
-run_before_first by s fault m numbers links due w l p q f n d =
+pub run_before_first : (by : Order) (s : FlowSet) (fault : Fault) (count m : ℕ) (numbers : Numbers) (links : Links) (due : List ℕ) → count ≡ s.count → m ≡ ones s.map.0
+    → m ≤ most_channels → AfterNumbers s numbers → Routes s links → fault ≡ record_fault (used s) → length numbers.start ≡ most_flows
+    → Through (due_by numbers.start numbers.period numbers.deadline 0) count (replicate most_flows 0) due
+    → RunSoFar by s fault count m 0 (counts_of 0 0) numbers links (run_arrays_of due numbers.start (replicate most_flows 0) (replicate most_flows 0) 0 0)
+run_before_first by s fault count m numbers links due e w l p q f n d =
     record {
-      count_is = refl;
+      count_is = e;
       ways_is = w ∙ ap (λ (c : ChannelMap). ones c.0) (sym (used_map s));
-      ways_le = rw w (ones-le most_channels s.map.0 l);
+      ways_le = l;
       set_numbers = p;
       set_links = q;
       before_releases = record {
         turns = record {
-          turn = λ k h. rw (d.below k h) (release_at_start (get_or numbers.start k 0) (get_or numbers.period k 0) (get_or numbers.deadline k 0));
-          none = λ k h. d.above k h ∙ get_or_zeros most_flows k;
+          turn = λ k h. rw (d.below k (omega (arith, h, e))) (release_at_start (get_or numbers.start k 0) (get_or numbers.period k 0) (get_or numbers.deadline k 0));
+          none = λ k h. d.above k (omega (arith, h, e)) ∙ get_or_zeros most_flows k;
         };
         soon = λ k h. zero-le;
         in_order = λ h. absurd (omega arith);

@@ -26,20 +26,16 @@ use Rattle.laws.specs.Accepted.{accepted}
 use Rattle.laws.specs.TestAnswers.{work_le_most}
 use Rattle.laws.specs.Used.{used_map, used_count, used_flow}
 use Rattle.laws.specs.SumLaws.{any_ext, and_l, and_r}
-use Rattle.machine.specs.ArrayLists.{Through, through_all, bit_one, get_or_zeros, filter_none}
+use Rattle.machine.specs.ArrayLists.{Through, through_all, through_none, bit_one, get_or_zeros, filter_none}
 use Rattle.model.specs.Releases.{release_back}
-use Rattle.machine.specs.LentArrays.{Numbers, Links, Packets, packets_of}
+use Rattle.machine.specs.LentArrays.{Numbers, Links, Packets, no_numbers, packets_of}
 use Rattle.machine.specs.PacketNumbers.{due_in, due_by, had_by, ahead_by, keys_by, ready_by, PacketsHold, had_is, ready_work, ready_if, used_none, accepted_count}
 use Rattle.machine.specs.ReadyOrder.{Each, each_at, each_wide, waiting_each, ordered_each, ordered_in, keep, keep_all, ReadyInOrder, FlowsTo}
 use Rattle.machine.specs.PlacedChoice.{Choice, choice_by, link_by, clash_of, ordered_by, placed_by, place_ext, placed_each, placed_ready, delivered_le}
-use Rattle.machine.specs.LinkColumns.{Routes, link_in, LinksThere, PlacedLinks, link_is, link_in_route}
+use Rattle.machine.specs.LinkColumns.{Routes, RoutesTo, routes_none, link_in, LinksThere, PlacedLinks, link_is, link_in_route}
 use Rattle.machine.specs.States.{bad_by, most_count, GoodState, had_le, count_after_le, fresh_good, good_not_bad, next_good, next_slot, step_with_good, run_none, run_with_next}
 use Rattle.promise.specs.Reports.{sends_length}
 use Rattle.machine.specs.SlotAnswers.{send_by, sends_of, sends_by, delivered_by, delivered_to, deliveries_by, delivery_array, length_deliveries, dropped_by, dropped_to, count_by, deliveries_by_law, delivered_by_law, dropped_by_law, after_by, next_by, MarkedDelayed}
-
--- a set's numbers in arrays: no start, period or deadline of the first n flows exceeds 16 bits
-abbrev pub SmallTo : ℕ → List ℕ → List ℕ → List ℕ → Type 0
-SmallTo n start period deadline = (k : ℕ) → k < n → (get_or start k 0 ≤ 65535) × (get_or period k 0 ≤ 65535) × (get_or deadline k 0 ≤ 65535)
 
 -- an accepted set's numbers in arrays, each within its bounds
 pub record AfterNumbers (s : FlowSet) (numbers : Numbers) : Type 0 where
@@ -290,28 +286,54 @@ through_blank f n m new h z k = elim (dec_le n k) [
   | no d ↦ h.below k (omega arith)
 ]
 
--- the arrays that `columns_of` fills are the set's numbers
+-- the first n flows' numbers are put in their places
+pub record FlowsPut (s : FlowSet) (n count : ℕ) (numbers : Numbers) (links : Links) : Type 0 where
+  pub count_is : count ≡ s.count
+  pub starts : Through (λ j. (flow_at (used s) j).start) n (replicate most_flows 0) numbers.start
+  pub periods : Through (λ j. (flow_at (used s) j).period.0) n (replicate most_flows 0) numbers.period
+  pub deadlines : Through (λ j. (flow_at (used s) j).deadline.0) n (replicate most_flows 0) numbers.deadline
+  pub works : Through (λ j. work_at (used s) j) n (replicate most_flows 0) numbers.work
+  pub small_period : (j : ℕ) → get_or numbers.period j 0 ≤ 65535
+  pub small_deadline : (j : ℕ) → get_or numbers.deadline j 0 ≤ 65535
+  pub long_tries : length links.tries ≡ most_flows
+  pub long_routes : length links.routes ≡ most_flows
+  pub links_are : RoutesTo s n links.tries links.routes
+
+pub flows_none : (s : FlowSet) (count : ℕ) (links : Links) → count ≡ s.count → length links.tries ≡ most_flows → length links.routes ≡ most_flows
+    → FlowsPut s 0 count no_numbers links
+flows_none s count links e f g =
+    record {
+      count_is = e;
+      starts = through_none _ _;
+      periods = through_none _ _;
+      deadlines = through_none _ _;
+      works = through_none _ _;
+      small_period = λ j. omega (arith, get_or_zeros most_flows j);
+      small_deadline = λ j. omega (arith, get_or_zeros most_flows j);
+      long_tries = f;
+      long_routes = g;
+      links_are = routes_none _ _ _;
+    }
+
+-- the arrays that `Columns::take` fills are the set's numbers
 pub after_numbers : (s : FlowSet) (numbers : Numbers) → good (record_fault (used s)).refusal ≡ true
     → Through (λ k. (flow_at (used s) k).start) s.count (replicate most_flows 0) numbers.start
     → Through (λ k. (flow_at (used s) k).period.0) s.count (replicate most_flows 0) numbers.period
     → Through (λ k. (flow_at (used s) k).deadline.0) s.count (replicate most_flows 0) numbers.deadline
     → Through (λ k. work_at (used s) k) s.count (replicate most_flows 0) numbers.work
-    → SmallTo s.count numbers.start numbers.period numbers.deadline → AfterNumbers s numbers
-after_numbers s numbers g a b c d m =
+    → ((k : ℕ) → get_or numbers.start k 0 ≤ 65535) → ((k : ℕ) → get_or numbers.period k 0 ≤ 65535) → ((k : ℕ) → get_or numbers.deadline k 0 ≤ 65535)
+    → AfterNumbers s numbers
+after_numbers s numbers g a b c d e f h =
     record {
       good_set = g;
       starts = through_blank _ s.count most_flows numbers.start a (λ k h. ap (λ (f : Flow). f.start) (used_none s k h));
       periods = through_blank _ s.count most_flows numbers.period b (λ k h. ap (λ (f : Flow). f.period.0) (used_none s k h));
       deadlines = through_blank _ s.count most_flows numbers.deadline c (λ k h. ap (λ (f : Flow). f.deadline.0) (used_none s k h));
       works = through_blank _ s.count most_flows numbers.work d (λ k h. ap work (used_none s k h));
-      small_start = small _ numbers.start a (λ k h. (m k h).0);
-      small_period = small _ numbers.period b (λ k h. (m k h).1);
-      small_deadline = small _ numbers.deadline c (λ k h. (m k h).2);
+      small_start = e;
+      small_period = f;
+      small_deadline = h;
     }
-  where
-    small : (f : ℕ → ℕ) (l : List ℕ) → Through f s.count (replicate most_flows 0) l → ((k : ℕ) → k < s.count → get_or l k 0 ≤ 65535)
-        → (k : ℕ) → get_or l k 0 ≤ 65535
-    small f l t i k = elim (dec_le s.count k) [ yes h ↦ rw (t.above k h, get_or_zeros most_flows k) zero-le | no h ↦ i k (omega arith) ]
 
 -- 12 by arrays
 pub bad_by_law : (s : FlowSet) (st : State) (numbers : Numbers) → AfterNumbers s numbers → bad_by st.slot.0 st.sent numbers.work ≡ bad_state (used s) st

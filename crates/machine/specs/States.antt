@@ -1,6 +1,6 @@
 -- Good states: 12 finds no fault in them, a step leads from one to the next, and a run of n slots from the fresh state ends in a good one
 -- at slot n, as far as the last slot, where a step changes nothing.
-use Rattle.std.specs.Prelude.{◌≡◌, Bool, ◌||◌, leb, ltb, eqb, get_or, length}
+use Rattle.std.specs.Prelude.{◌≡◌, Bool, IsTrue, ◌↔◌, ◌||◌, leb, ltb, eqb, get_or, length}
 use Rattle.std.proofs.Math.Path.{refl, ap}
 use Rattle.std.proofs.Common.{sym, ap₂, ◌∙◌, le_refl, add-zero}
 use Rattle.std.proofs.Math.Bool.{true, false, cond}
@@ -26,7 +26,7 @@ use Rattle.model.specs.Sets.{flow_at, fresh_state, memb}
 use Rattle.document.specs.Reader.{record_fault}
 use Rattle.document.specs.Delay.{work_at}
 use Rattle.document.specs.Machine.{release_at, count_at, had_at, bad_state, step_fault, stepped, run_more, count_with, next_with, run_with, step_with, step_if_with, Priority, placed_with}
-use Rattle.laws.specs.SumLaws.{any_none, neither}
+use Rattle.laws.specs.SumLaws.{any_in, any_none, neither}
 use Rattle.machine.specs.ArrayLists.{length_list_to, get_or_list_to, get_or_zeros}
 use Rattle.machine.specs.PacketNumbers.{next_is, ready_if}
 use Rattle.machine.specs.PlacedChoice.{placed_ready}
@@ -49,6 +49,18 @@ pub any_all : (p : ℕ → Bool) (n : ℕ) → ((k : ℕ) → k < n → p k ≡ 
 unfolding any_to
 any_all p zero h = refl
 any_all p (suc n) h = rw (any_all p n (λ k l. h k (omega arith)), h n (le_refl (suc n)))
+
+-- that some entry is above another array's says what the search for one says
+pub any_above_is : (b : Bool) (work sent : List ℕ) (n : ℕ) → IsTrue b ↔ ((k : ℕ) × (k < n) × (get_or work k 0 < get_or sent k 0))
+    → b ≡ any_to (λ k. ltb (get_or work k 0) (get_or sent k 0)) n
+any_above_is true work sent n h =
+    let w = h.0 refl in
+    sym (any_in (λ k. ltb (get_or work k 0) (get_or sent k 0)) n w.0 w.1 (lt-ltb _ _ w.2))
+any_above_is false work sent n h =
+    sym (any_all (λ k. ltb (get_or work k 0) (get_or sent k 0)) n (λ k l. elim (dec_le (get_or sent k 0) (get_or work k 0)) [
+      | yes d ↦ le-ltb _ _ d
+      | no d ↦ absurd (false≢true (h.1 (k, l, omega arith)))
+    ]))
 
 pub good_state : (s : FlowSet) (st : State) → length st.sent ≡ most_flows → bad_state s st ≡ false → GoodState s st
 unfolding bad_state

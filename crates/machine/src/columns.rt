@@ -1,107 +1,108 @@
-// The numbers of a set's flows, each kind in an array of its own, and each flow's absolute deadline and count in a slot.
+// The numbers of a set's flows, each kind in an array of its own.
 ghost use Rattle.std.specs.Prelude.{◌≡◌, ◌+◌, ◌<◌, ◌≤◌, ℕ, get_or, length, set, true};
-ghost use Rattle.model.specs.Limits.{last_slot, most_flows, most_nodes};
+ghost use Rattle.std.specs.Int.Count.{ones};
 ghost use Rattle.model.specs.Refusals.{good};
 ghost use Rattle.document.specs.Reader.{record_fault};
-ghost use Rattle.model.specs.Sets.{flow_at, used};
-ghost use Rattle.document.specs.Delay.{work_at};
-ghost use Rattle.machine.specs.ArrayLists.{Through};
-ghost use Rattle.machine.specs.LentArrays.{PerFlow, links_of};
-ghost use Rattle.machine.specs.LinkColumns.{Routes};
-ghost use Rattle.machine.specs.PacketNumbers.{due_by, had_by};
-ghost use Rattle.machine.specs.SlotByColumns.{SmallTo};
+ghost use Rattle.model.specs.Sets.{used, work};
+ghost use Rattle.model.specs.Limits.{most_channels, most_flows, most_nodes};
 
-use crate::packets::{absolute_deadline, had_of};
-use model::{Flow, FlowSet, Slot, Span};
+use crate::choice::Ends;
+use model::{ChannelMap, Flow, FlowSet};
 
-// Puts flow k's tries and route in their places, and says how long the route's array is, since the record does not.
-fn put_route(
-    k: usize,
-    f: Flow,
-    tries: &mut [u16; Flow::MOST],
-    routes: &mut [[u16; Flow::MOST_NODES]; Flow::MOST],
-)
-    requires { (k < most_flows) × PerFlow tries.old × PerFlow routes.old }
-    ensures tries { tries.new ≡ set tries.old k f.tries }
-    ensures routes { routes.new ≡ set routes.old k f.route }
-    ensures long { length f.route ≡ most_nodes }
+// How many channels a slot can use: a map has 16 bits.
+fn ways_of(map: ChannelMap) -> usize
+    ensures { (result ≡ ones map.0) × (result ≤ most_channels) }
 {
-    let route = f.route;
-    tries[k] = f.tries;
-    routes[k] = route;
+    map.ways() as usize
 }
 
-// Puts an accepted set's starts, periods, deadlines, C, tries and routes, in the first entries of six arrays.
-pub fn columns_of(
-    s: FlowSet,
-    start: &mut [u32; Flow::MOST],
-    period: &mut [u16; Flow::MOST],
-    deadline: &mut [u16; Flow::MOST],
-    work: &mut [u8; Flow::MOST],
-    tries: &mut [u16; Flow::MOST],
-    routes: &mut [[u16; Flow::MOST_NODES]; Flow::MOST],
-)
-    requires s_value { good (record_fault (used s)).refusal ≡ true }
-    requires per_flow { PerFlow start.old × PerFlow period.old × PerFlow deadline.old × PerFlow work.old × PerFlow tries.old × PerFlow routes.old }
-    ensures starts { Through (λ k. (flow_at (used s) k).start) s.count start.old start.new }
-    ensures periods { Through (λ k. (flow_at (used s) k).period.0) s.count period.old period.new }
-    ensures deadlines { Through (λ k. (flow_at (used s) k).deadline.0) s.count deadline.old deadline.new }
-    ensures works { Through (λ k. work_at (used s) k) s.count work.old work.new }
-    ensures links { Routes s (links_of tries.new routes.new) }
-    ensures small { SmallTo s.count start.new period.new deadline.new }
-{
-    let count = s.count as usize;
-    let mut k = 0;
-    while k < count {
-        let f = s.flows[k];
-        let first = f.first_release();
-        start[k] = first.0;
-        period[k] = f.period.slots();
-        deadline[k] = f.deadline.slots();
-        work[k] = f.work() as u8;
-        put_route(k, f, tries, routes);
-        k += 1;
+// How many channels a slot can use, and a set's flows; entries beyond the last flow are 0. Starts are numbers of 16 bits, so that no slot of the
+// machine and a start and a deadline add up to more than a slot's number can be.
+// Kept: an array for each kind, as the definitions' lists are (`numbers_of`, `links_of`): an array of records would be taken apart in each clause.
+#[derive(Drop)]
+pub struct Columns {
+    pub ways: usize,
+    pub count: usize,
+    pub start: [u32; Flow::MOST],
+    pub period: [u16; Flow::MOST],
+    pub deadline: [u16; Flow::MOST],
+    pub work: [u8; Flow::MOST],
+    pub tries: [u16; Flow::MOST],
+    pub routes: [[u16; Flow::MOST_NODES]; Flow::MOST],
+    pub ghost some_ways: { ways ≤ most_channels },
+    pub ghost few: { count ≤ most_flows },
+    pub ghost small: { (k : ℕ) → get_or start k 0 ≤ 65535 },
+}
+
+impl Columns {
+    ghost use Rattle.machine.specs.LinkColumns.{LinkThere, Routes, end_at, from_at};
+    ghost use Rattle.machine.specs.SlotByColumns.{AfterNumbers};
+    ghost use Rattle.machine.specs.LentArrays.{no_numbers};
+    ghost use Rattle.machine.specs.Structs.{links_of, numbers_of};
+
+    // Puts flow k's numbers in their places. The contract says how wide they are too, since a list of numbers does not.
+    fn put(&mut self, k: usize, f: Flow)
+        requires { (k < most_flows) × (work f ≤ 255) }
+        ensures counts { (self.new.ways ≡ self.old.ways) × (self.new.count ≡ self.old.count) }
+        ensures start { self.new.start ≡ set self.old.start k f.start }
+        ensures period { self.new.period ≡ set self.old.period k f.period.0 }
+        ensures deadline { self.new.deadline ≡ set self.old.deadline k f.deadline.0 }
+        ensures work { self.new.work ≡ set self.old.work k (work f) }
+        ensures tries { self.new.tries ≡ set self.old.tries k f.tries }
+        ensures routes { self.new.routes ≡ set self.old.routes k f.route }
+        ensures widths { (f.period.0 ≤ 65535) × (f.deadline.0 ≤ 65535) × (length f.route ≡ most_nodes) }
+    {
+        self.start[k] = f.first_release().0;
+        self.period[k] = f.period.slots();
+        self.deadline[k] = f.deadline.slots();
+        self.work[k] = f.work() as u8;
+        self.tries[k] = f.tries;
+        let route = f.route;
+        self.routes[k] = route;
     }
-}
 
-// Sets each flow's absolute deadline in slot t.
-pub fn deadlines_in(
-    count: usize,
-    t: u32,
-    start: &[u32; Flow::MOST],
-    period: &[u16; Flow::MOST],
-    deadline: &[u16; Flow::MOST],
-    due: &mut [u32; Flow::MOST],
-)
-    requires count_le_most_flows { (count ≤ most_flows) × (t ≤ last_slot) × PerFlow due.old }
-    requires by_index { (k : ℕ) → k < count → (get_or start.now k 0 ≤ 65535) × (get_or deadline.now k 0 ≤ 65535) }
-    ensures { Through (due_by start.now period.now deadline.now t) count
-        due.old due.new }
-{
-    let mut k = 0;
-    while k < count {
-        let end = absolute_deadline(Slot(start[k]), Span(period[k]), Span(deadline[k]), Slot(t));
-        due[k] = end.0;
-        k += 1;
+    // No flows.
+    pub fn none() -> Columns
+        ensures { (result.count ≡ 0) × (numbers_of result ≡ no_numbers) }
+    {
+        Columns {
+            ways: 0,
+            count: 0,
+            start: [0; Flow::MOST],
+            period: [0; Flow::MOST],
+            deadline: [0; Flow::MOST],
+            work: [0; Flow::MOST],
+            tries: [0; Flow::MOST],
+            routes: [[0; Flow::MOST_NODES]; Flow::MOST],
+        }
     }
-}
 
-// Sets each flow's count to 0 in a release slot of the flow.
-pub fn restart(
-    count: usize,
-    t: u32,
-    deadline: &[u16; Flow::MOST],
-    due: &[u32; Flow::MOST],
-    sent: &mut [u8; Flow::MOST],
-)
-    requires count_le_most_flows { (count ≤ most_flows) × (t ≤ last_slot) × PerFlow sent.old }
-    requires by_index { (k : ℕ) → k < count → get_or deadline.now k 0 ≤ 65535 }
-    ensures { Through (had_by due.now deadline.now t sent.old) count
-        sent.old sent.new }
-{
-    let mut k = 0;
-    while k < count {
-        sent[k] = had_of(Slot(due[k]), Span(deadline[k]), Slot(t), sent[k]);
-        k += 1;
+    // Takes in an accepted set's flows where there were none.
+    // Kept: it fills what is lent, since columns that a function hands out are copied twice, which makes a step a fifth slower.
+    pub fn take(&mut self, s: &FlowSet)
+        requires good { good (record_fault (used s.now)).refusal ≡ true }
+        requires none { numbers_of self.old ≡ no_numbers }
+        ensures ways { self.new.ways ≡ ones s.now.map.0 }
+        ensures count { self.new.count ≡ s.now.count }
+        ensures numbers { AfterNumbers s.now (numbers_of self.new) }
+        ensures links { Routes s.now (links_of self.new) }
+    {
+        self.ways = ways_of(s.map);
+        self.count = s.count as usize;
+        for k in 0..self.count {
+            self.put(k, s.flows[k]);
+        }
+    }
+
+    // Rule 3: the link of flow k's next transmission, where its packet has had n of its C.
+    pub fn link(&self, k: usize, n: u8) -> Ends
+        requires { (k < most_flows) × LinkThere (links_of self.now) k n }
+        ensures { (result.from ≡ from_at (links_of self.now) k n) × (result.to ≡ end_at (links_of self.now) k n 1) }
+    {
+        let i = (n as u16 / self.tries[k]) as usize;
+        Ends {
+            from: self.routes[k][i],
+            to: self.routes[k][i + 1],
+        }
     }
 }

@@ -19,24 +19,25 @@ mod slot;
 mod state;
 
 use crate::runs::run_accepted;
+use crate::slot::step_of;
+use crate::state::refused;
 use model::{FlowSet, Order, Ran, State, Stepped};
 pub use rows::rows_accepted;
-pub use slot::{radio_channel, step_accepted, step_after};
+pub use slot::{radio_channel, step_accepted};
 
 // A run in an order of priority.
 fn run_by(by: Order, s: FlowSet, budget: u32) -> Ran
     ensures { result ≡ run_with (order_of by) (used s) budget }
 {
-    let fault = rules::record_fault(s);
-    if fault.refuses() {
-        return Ran {
+    match rules::record_fault(s) {
+        Ok(()) => run_accepted(by, &s, budget),
+        Err(fault) => Ran {
             fault,
             last: State::fresh(),
             delivered: 0,
             dropped: 0,
-        };
+        },
     }
-    run_accepted(by, s, fault, budget)
 }
 
 // Runs a budget of slots from the fresh state, as far as the last slot: the state reached, and how many packets were delivered and dropped.
@@ -60,8 +61,10 @@ pub fn fixed_run(s: FlowSet, budget: u32) -> Ran
 fn step_by(by: Order, s: FlowSet, st: State) -> Stepped
     ensures { result ≡ step_with (order_of by) (used s) st }
 {
-    let fault = rules::record_fault(s);
-    step_after(fault, by, s, st)
+    match rules::record_fault(s) {
+        Ok(()) => step_of(by, &s, st),
+        Err(fault) => refused(fault, st),
+    }
 }
 
 // One step: what is sent, delivered and dropped in the state's slot, and the next state. Refusals in the order of document 01: the

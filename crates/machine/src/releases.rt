@@ -1,95 +1,80 @@
 // The releases of a run's slot. Beside each flow's absolute deadline a run keeps the flow's next release, so that a slot without a release
 // costs one comparison and one with a release divides nothing.
-ghost use Rattle.std.specs.Prelude.{◌≡◌, ◌+◌, ◌<◌, ◌≤◌, min, ℕ, get_or};
-ghost use Rattle.machine.specs.LentArrays.{PerFlow, numbers_of, packets_of, releases_of, run_arrays_of};
+ghost use Rattle.std.specs.Prelude.{◌≡◌, ◌<◌, ◌≤◌, replicate};
+ghost use Rattle.machine.specs.ArrayLists.{Through};
+ghost use Rattle.machine.specs.LentArrays.{releases_in, run_arrays_of};
 ghost use Rattle.machine.specs.NextReleases.{NoneBefore, Released};
+ghost use Rattle.machine.specs.PacketNumbers.{due_by};
 ghost use Rattle.model.specs.Limits.{last_slot, most_flows};
 ghost use Rattle.machine.specs.RunSlots.{AfterReleases, WaitingInOrder};
+ghost use Rattle.machine.specs.Structs.{numbers_of, packets_at, run_arrays};
 
-use crate::order::line_up;
+use crate::columns::Columns;
+use crate::order::Line;
+use crate::packets::Packets;
 use model::{Flow, Order, Slot, Span};
 
-// The earlier of two slots.
-fn earlier(a: Slot, b: Slot) -> Slot
-    ensures { result.0 ≡ min a.0 b.0 }
-{
-    if a.0 <= b.0 { a } else { b }
+// What a run keeps from slot to slot: the packets, each flow's next release, the soonest of these, and the line, whose first until then hold
+// every ready packet.
+#[derive(Drop)]
+pub struct Run {
+    pub packets: Packets,
+    pub next: [u32; Flow::MOST],
+    pub soonest: Slot,
+    pub line: Line,
 }
 
-// Makes the releases of slot t: each released packet's absolute deadline, its flow's next release, and a count that starts again. Answers
-// the soonest of the next releases.
-fn release(
-    count: usize,
-    t: u32,
-    period: &[u16; Flow::MOST],
-    deadline: &[u16; Flow::MOST],
-    due: &mut [u32; Flow::MOST],
-    next: &mut [u32; Flow::MOST],
-    sent: &mut [u8; Flow::MOST],
-) -> Slot
-    requires count_le_most_flows { (count ≤ most_flows) × (t ≤ last_slot) × PerFlow due.old × PerFlow next.old × PerFlow sent.old }
-    requires by_index { (k : ℕ) → (get_or period.now k 0 ≤ 65535) × (get_or deadline.now k 0 ≤ 65535) }
-    ensures released { Released count t period.now deadline.now (releases_of due.old next.old sent.old) (releases_of due.new next.new sent.new) }
-    ensures soonest { NoneBefore count result.0 next.new }
-{
-    let mut soonest = Slot(4294967295);
-    let mut k = 0;
-    while k < count {
-        let at = next[k];
-        if at == t {
-            let end = Slot(t).after(Span(deadline[k]));
-            let after = Slot(t).after(Span(period[k]));
-            due[k] = end.0;
-            next[k] = after.0;
-            sent[k] = 0;
-            soonest = earlier(soonest, after);
-            k += 1;
-        } else {
-            soonest = earlier(soonest, Slot(at));
-            k += 1;
+impl Run {
+    // Before the first slot: no packet has had a transmission, and none waits.
+    pub fn at_start(c: &Columns) -> Run
+        ensures deadlines { Through (due_by c.now.start c.now.period c.now.deadline 0) c.now.count (replicate most_flows 0) result.packets.due }
+        ensures rest { run_arrays result ≡ run_arrays_of result.packets.due c.now.start (replicate most_flows 0) (replicate most_flows 0) 0 0 }
+    {
+        let mut packets = Packets {
+            due: [0; Flow::MOST],
+            sent: [0; Flow::MOST],
+        };
+        packets.set_deadlines(0, c);
+        let next = c.start;
+        Run {
+            packets,
+            next,
+            soonest: Slot(0),
+            line: Line::empty(),
         }
     }
-    soonest
-}
 
-// No release comes before `soonest`, and until then the first `waiting` entries of the order hold every ready packet.
-#[derive(Clone, Copy)]
-pub struct UntilRelease {
-    pub soonest: Slot,
-    pub waiting: usize,
-}
-
-// Makes the releases of slot t, if it has any. Only then are the packets put in order anew.
-pub fn release_packets(
-    by: Order,
-    count: usize,
-    t: u32,
-    start: &[u32; Flow::MOST],
-    period: &[u16; Flow::MOST],
-    deadline: &[u16; Flow::MOST],
-    work: &[u8; Flow::MOST],
-    soonest: Slot,
-    waiting: usize,
-    due: &mut [u32; Flow::MOST],
-    next: &mut [u32; Flow::MOST],
-    sent: &mut [u8; Flow::MOST],
-    order: &mut [usize; Flow::MOST],
-) -> UntilRelease
-    requires count_le_most_flows { (count ≤ most_flows) × (t ≤ last_slot) × (waiting ≤ most_flows) }
-    requires per_flow { PerFlow due.old × PerFlow next.old × PerFlow sent.old × PerFlow order.old }
-    requires by_index { (k : ℕ) → (get_or period.now k 0 ≤ 65535) × (get_or deadline.now k 0 ≤ 65535) }
-    requires none_before { NoneBefore count soonest.0 next.old }
-    requires waiting_in_order { t < soonest.0 → WaitingInOrder by count t (packets_of start.now due.old sent.old work.now) order.old waiting }
-    ensures { AfterReleases by count t (numbers_of start.now period.now deadline.now work.now)
-        (run_arrays_of due.old next.old sent.old order.old soonest.0 waiting) (run_arrays_of due.new next.new sent.new order.new result.soonest.0 result.waiting) }
-{
-    if t < soonest.0 {
-        return UntilRelease { soonest, waiting };
+    // Makes the releases of slot t: each released packet's absolute deadline, its flow's next release, and a count that starts again.
+    fn release(&mut self, t: u32, c: &Columns)
+        requires { t ≤ last_slot }
+        ensures released { Released c.now.count t c.now.period c.now.deadline (releases_in (run_arrays self.old)) (releases_in (run_arrays self.new)) }
+        ensures soonest { NoneBefore c.now.count self.new.soonest.0 self.new.next }
+    {
+        let mut soonest = u32::MAX;
+        for k in 0..c.count {
+            if self.next[k] == t {
+                let end = Slot(t).after(Span(c.deadline[k]));
+                self.packets.due[k] = end.0;
+                self.packets.sent[k] = 0;
+                self.next[k] = Slot(t).after(Span(c.period[k])).0;
+            }
+            soonest = soonest.min(self.next[k]);
+        }
+        self.soonest = Slot(soonest);
     }
-    let first = release(count, t, period, deadline, due, next, sent);
-    let ready = line_up(by, count, t, start, due, sent, work, order);
-    UntilRelease {
-        soonest: first,
-        waiting: ready,
+
+    // Makes the releases of slot t, if it has any. Only then are the packets put in order anew.
+    pub fn release_packets(&mut self, by: Order, t: u32, c: &Columns)
+        requires t_le_last_slot { (t ≤ last_slot) × (self.old.line.waiting ≤ most_flows) }
+        requires none_before { NoneBefore c.now.count self.old.soonest.0 self.old.next }
+        requires waiting_in_order { t < self.old.soonest.0
+            → WaitingInOrder by c.now.count t (packets_at c.now self.old.packets) self.old.line.order self.old.line.waiting }
+        ensures { AfterReleases by c.now.count t (numbers_of c.now) (run_arrays self.old) (run_arrays self.new) }
+    {
+        if t < self.soonest.0 {
+            return;
+        }
+        self.release(t, c);
+        self.line.line_up(by, t, c, &self.packets);
     }
 }

@@ -15,8 +15,7 @@ fn number_of(n: u8) -> u16
     requires { 0 < n }
     ensures { result ≡ n - 1 }
 {
-    let had = n as u16;
-    had - 1
+    u16::from(n) - 1
 }
 
 // How many rows a slot gets: one for each placed flow if rows are put, else none.
@@ -27,7 +26,7 @@ pub fn rows_of(put: bool, placed: usize) -> usize
 }
 
 // Puts rows of slot t into the table from a place on: those of the first placed flows in their order, at offsets 0, 1, 2 .., by their counts after
-// the slot. Answers the place behind them.
+// the slot. Answers the place behind them. Kept: six parameters, which travel together nowhere else.
 pub fn put_rows(
     t: u32,
     sent: &[u8; Flow::MOST],
@@ -41,18 +40,16 @@ pub fn put_rows(
     ensures rows { table.new ≡ sets table.old from
         (flat (rows_by t sent.now 0 (take rows chosen.now))) }
 {
+    // Kept: a place that is counted on, since it is answered.
     let mut at = from;
-    let mut i = 0;
-    while i < rows {
+    for i in 0..rows {
         let k = chosen[i];
         let number = number_of(sent[k]);
-        let after = i + 1;
         table[at] = t as u16;
         table[at + 1] = k as u16;
         table[at + 2] = number;
         table[at + 3] = i as u16;
         at += 4;
-        i = after;
     }
     at
 }
@@ -63,5 +60,5 @@ pub fn rows_accepted(s: FlowSet, slots: u32, table: &mut [u16])
     requires slots_bound { (slots ≤ 65536) × (length (flat (rows_to (used s) slots)) ≤ length table.old) }
     ensures { table.new ≡ at_start (flat (rows_to (used s) slots)) table.old }
 {
-    run_to(Order::Deadline, s, Slot(slots), true, table);
+    run_to(Order::Deadline, &s, Slot(slots), true, table);
 }

@@ -3,5 +3,5 @@ use Rattle.machine.specs.RunKept.{never_drops_in}
 use borrow.Author.Rules.{rules}
 use Rattle.machine.proofs.run.Goals as goal
 
-pub returns : goal.returns
-returns c = record { value = c.run_by.ensures; kept = never_drops_in c.args.s (search rules) c.args.budget _ c.run_by.ensures }
+pub returns-clause-kept : goal.returns-clause-kept
+returns-clause-kept c = never_drops_in c.args.s (search rules) c.args.budget _ c.run_by.ensures
