@@ -4,3 +4,4 @@ pub mod RunSlotBySlot
 pub mod BoundText
 pub mod PlanInBuffer
 pub mod PlanLength
+pub mod Told

@@ -5,7 +5,7 @@ use Rattle.model.specs.declared.kinds.{FlowSet.{FlowSet}, Order.{Order}, Order.T
 use Rattle.model.specs.Refusals.{good}
 use Rattle.document.specs.Reader.{record_fault}
 use Rattle.model.specs.Sets.{used}
-use Rattle.document.specs.{Program.{plan_of, print_if}, Fixed.{fixed_of}}
+use Rattle.document.specs.{Program.{plan_of}, Fixed.{fixed_of}}
 
 -- what is said of a set: by `plan`, which goes by document 01's order, and by `fixed`
 abbrev pub says_by : Order → FlowSet → List ℕ
@@ -19,7 +19,3 @@ most_plan = 18432
 -- a text that was read without fault passes the record check
 abbrev pub Passed : Reading → Type 0
 Passed r = good r.fault.refusal ≡ true → good (record_fault (used r.set)).refusal ≡ true
-
--- what is printed for it, or for its refusal
-abbrev pub print_read : Order → Reading → List ℕ
-print_read by r = print_if (says_by by) r (good r.fault.refusal)

@@ -1,13 +1,12 @@
 // The lines of the program for fixed priority: the verdict, every flow's bound, and what is sent through slot 11.
-ghost use Rattle.std.specs.Prelude.{◌≡◌, true};
-ghost use Rattle.model.specs.Refusals.{good};
-ghost use Rattle.model.specs.Sets.{used};
-ghost use Rattle.document.specs.Fixed.{fixed_bound_line, fixed_bound_lines, fixed_line, fixed_of};
-ghost use Rattle.document.specs.Reader.{record_fault};
+ghost use Rattle.std.specs.Prelude.{◌≡◌};
+ghost use Rattle.model.specs.declared.kinds.Order.TheVariants.{Number};
+ghost use Rattle.document.specs.Fixed.{fixed_bound_line, fixed_bound_lines, fixed_bounds_of, fixed_line, fixed_of, fixed_verdict_of};
 ghost use Rattle.text.specs.Put.{Put};
 ghost use Rattle.delay.specs.AllFixed.{AllFixedOf};
+ghost use Rattle.plan_text.specs.Told.{fixed_laws};
 
-use crate::lines::put_run;
+use crate::lines::Told;
 use delay::AllFixed;
 use model::{FixedBounds, FixedVerdict, FlowSet, Order, bit};
 
@@ -23,35 +22,39 @@ fn put_verdict(out: &mut [u8], at: usize, v: FixedVerdict) -> usize
 fn put_bound(out: &mut [u8], at: usize, k: u16, b: FixedBounds) -> usize
     ensures { Put out.old at (fixed_bound_line k b) out.new result }
 {
-    let deadline = b.deadline;
-    let numbers = [k as u32, b.work, b.bound, deadline.0 as u32, bit(b.judged)];
+    let deadline = u32::from(b.deadline.0);
+    let numbers = [u32::from(k), b.work, b.bound, deadline, bit(b.judged)];
     text::put_line(out, at, b"bound", &numbers)
 }
 
-// The `bound` lines of a set's flows, from the bounds of all flows.
-fn put_bounds(out: &mut [u8], at: usize, s: FlowSet, all: AllFixed) -> usize
-    requires { AllFixedOf (used s) all }
-    ensures { Put out.old at (fixed_bound_lines (used s) s.count) out.new result }
-{
-    let n = s.count;
-    let mut place = at;
-    let mut k: u16 = 0;
-    while k < n {
-        let b = delay::fixed_bounds_of(s, k, all);
-        place = put_bound(out, place, k, b);
-        k += 1;
-    }
-    place
-}
+impl Told for AllFixed {
+    ghost of_set = { AllFixedOf };
 
-// What there is to say of a set that was read; the flows are judged once.
-pub fn put_fixed(out: &mut [u8], s: FlowSet) -> usize
-    requires { good (record_fault (used s)).refusal ≡ true }
-    ensures { Put out.old 0 (fixed_of (used s)) out.new result }
-{
-    let all = delay::all_fixed(s);
-    let v = delay::fixed_verdict_of(s, all);
-    let first = put_verdict(out, 0, v);
-    let second = put_bounds(out, first, s, all);
-    put_run(Order::Number, out, second, s)
+    ghost order = { Number };
+
+    ghost first_line = { λ s. fixed_line (fixed_verdict_of s) };
+
+    ghost flow_line = { λ s k. fixed_bound_line k (fixed_bounds_of s k) };
+
+    ghost flow_lines = { fixed_bound_lines };
+
+    ghost all_lines = { fixed_of };
+
+    ghost laws = { fixed_laws };
+
+    fn order() -> Order {
+        Order::Number
+    }
+
+    fn of(s: FlowSet) -> AllFixed {
+        delay::fixed_of_accepted(s)
+    }
+
+    fn put_first(&self, out: &mut [u8], at: usize, s: FlowSet) -> usize {
+        put_verdict(out, at, self.verdict(&s))
+    }
+
+    fn put_flow(&self, out: &mut [u8], at: usize, s: FlowSet, k: u16) -> usize {
+        put_bound(out, at, k, self.bounds(&s, k))
+    }
 }

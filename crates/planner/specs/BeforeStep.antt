@@ -13,7 +13,7 @@ abbrev pub length_fault : ℕ → Fault
 length_fault n = cond (eqb n state_length) no_fault (fault_at BadState 0)
 
 -- the text's refusals, then 12
-unfoldable pub fault_before_step : Fault → ℕ → Fault
+abbrev pub fault_before_step : Fault → ℕ → Fault
 fault_before_step f n = or_else f (length_fault n)
 
 -- a reading that is not refused has a set that the record check passes

@@ -1,10 +1,8 @@
 pub mod BeforeStep
-pub mod SlotBytes
 pub mod StateBytes
-pub mod StateCopy
 pub mod StepWritten
-pub mod AnswersInNumbers
 pub mod FlowBeyondLast
 pub mod AfterStep
 pub mod SlotIsStep
 pub mod TableRows
+pub mod OfReading

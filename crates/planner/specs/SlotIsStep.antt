@@ -1,5 +1,5 @@
 -- One slot for C is the step of the set that was read, written, by any order of priority: the two agree on the fault, the lines and the next state.
-use Rattle.std.specs.Prelude.{◌≡◌, refl, Bool, true, false, cond, List, ◌++◌, ℕ, ◌<◌, ltb, eqb, length, drop}
+use Rattle.std.specs.Prelude.{◌≡◌, refl, Bool, true, false, cond, List, Result, Err, MatchResult, ◌++◌, ℕ, ◌<◌, ltb, eqb, length, drop}
 use Rattle.std.proofs.Common.{sym, ap, ◌∙◌, eqb-true}
 use Rattle.std.proofs.lemmas.Bool.{false≢true}
 use Rattle.model.specs.declared.answers.Fault.{Fault}
@@ -13,6 +13,8 @@ use Rattle.document.specs.Machine.{Priority, step_fault, next_with, step_with, s
 use Rattle.document.specs.Program.{state_of, state_bytes, state_length, slot_lines_with, slot_fault_with, slot_state_with, slot_buffer_with}
 use Rattle.laws.specs.Accepted.{or_else_good}
 use Rattle.machine.specs.StepLines.{lines_with_law}
+use Rattle.superframe_table.specs.SetFaults.{unless}
+use Rattle.planner.specs.OfReading.{told}
 use Rattle.planner.specs.StateBytes.{with_state_law}
 use Rattle.planner.specs.BeforeStep.{PassesIfRead, fault_before_step}
 use Rattle.planner.specs.StepWritten.{step_lines, written, room_fault, step_answer, step_state, step_buffer}
@@ -35,7 +37,6 @@ whole true h = refl
 whole false h = h
 
 pub before_good : (f : Fault) (n : ℕ) → good (fault_before_step f n).refusal ≡ true → (good f.refusal ≡ true) × (eqb n state_length ≡ true)
-unfolding fault_before_step
 before_good f n h =
     let w = or_else_good f (cond (eqb n state_length) no_fault (fault_at BadState 0)) h in
     (w.0, whole (eqb n state_length) w.1)
@@ -71,7 +72,7 @@ agrees first r state h m = go (good (step_fault (used r.set) (state_of state)).r
 -- what is refused before the step is the slot's fault
 before_slot : (first : Priority) (r : Reading) (state : List ℕ) (room : ℕ) → good (fault_before_step r.fault (length state)).refusal ≡ false
     → slot_fault_with first r state room ≡ fault_before_step r.fault (length state)
-unfolding slot_fault_with fault_before_step
+unfolding slot_fault_with
 before_slot first r state room h = go (good r.fault.refusal) (eqb (length state) state_length) refl h
   where
     go : (b c : Bool) → good r.fault.refusal ≡ b → good (cond b (cond c no_fault (fault_at BadState 0)) r.fault).refusal ≡ false
@@ -85,9 +86,9 @@ before_slot first r state room h = go (good r.fault.refusal) (eqb (length state)
 
 -- ---- the answer, the state and the buffer after a slot
 
-abbrev pub Answered : Priority → Reading → List ℕ → List ℕ → Written → List ℕ → List ℕ → Type 0
+abbrev pub Answered : Priority → Reading → List ℕ → List ℕ → Result Written Fault → List ℕ → List ℕ → Type 0
 Answered first r state lines w s l =
-    (w ≡ slot_answer_with first r state (length lines)) × ((s ≡ slot_state_with first r state (length lines)) × (l ≡ slot_buffer_with first r state lines))
+    (w ≡ unless (slot_fault_with first r state (length lines)) (slot_answer_with first r state (length lines))) × ((s ≡ slot_state_with first r state (length lines)) × (l ≡ slot_buffer_with first r state lines))
 
 -- a choice that is made only where what it chooses is the same
 cond_same {ℓ} : {A : Type ℓ} (b : Bool) (x y z : A) → (b ≡ true → x ≡ y) → cond b x z ≡ cond b y z
@@ -100,13 +101,13 @@ unfolding room_fault
 step_first a room h = (or_else_good a.fault (roomed (step_lines a) room) h).0
 
 pub answered : (first : Priority) (r : Reading) (state lines : List ℕ) (a : Stepped) → Agrees first r state a → length state ≡ state_length
-    → Answered first r state lines (step_answer a (length lines)) (step_state a state (length lines)) (step_buffer a lines)
+    → Answered first r state lines (unless (room_fault a (length lines)) (step_answer a (length lines))) (step_state a state (length lines)) (step_buffer a lines)
 unfolding slot_answer_with slot_state_with slot_buffer_with step_answer step_state step_buffer
 answered first r state lines a g w =
     let n = length lines in
     let l : good (room_fault a n).refusal ≡ true → step_lines a ≡ slot_lines_with first (used r.set) state = λ h. sym (g.lines_is (step_first a n h)) in
     rw (g.fault_is_law n) (
-      ap (λ (k : ℕ). written (room_fault a n) k) (cond_same (good (room_fault a n).refusal) _ _ 0 (λ h. ap (λ (u : List ℕ). length u) (l h))),
+      ap (λ (k : ℕ). unless (room_fault a n) (written (room_fault a n) k)) (cond_same (good (room_fault a n).refusal) _ _ 0 (λ h. ap (λ (u : List ℕ). length u) (l h))),
       (
         cond_same (good (room_fault a n).refusal) _ _ state (λ h. with_state_law a.next state w ∙ ap state_bytes (sym (g.next_is (step_first a n h)))),
         cond_same (good (room_fault a n).refusal) _ _ lines (λ h. ap (λ (u : List ℕ). u ++ drop (length u) lines) (l h)),
@@ -115,28 +116,27 @@ answered first r state lines a g w =
 
 -- refused before the step
 pub answered_before : (first : Priority) (r : Reading) (state lines : List ℕ) (f : Fault) → f ≡ fault_before_step r.fault (length state)
-    → good f.refusal ≡ false → Answered first r state lines (refused_writing f) state lines
+    → good f.refusal ≡ false → Answered first r state lines (Err f) state lines
 unfolding slot_answer_with slot_state_with slot_buffer_with
 answered_before first r state lines f e h =
     let s = before_slot first r state (length lines) (rw (← e) h) ∙ sym e in
     rw (s, h) (refl, (refl, refl))
 
 -- nothing is refused before the step of the set that was read
-pub record PassedBefore (r : Reading) (state : List ℕ) (f : Fault) : Type 0 where
-  pub fault_is_law : f ≡ fault_before_step r.fault (length state)
-  pub passed : good f.refusal ≡ true
-  pub bits : r.set.map.0 < 65536
-
-module _ (r : Reading) (state : List ℕ) (f : Fault) (q : PassedBefore r state f) where
-  before_passed : good (fault_before_step r.fault (length state)).refusal ≡ true
-  before_passed = rw (← q.fault_is_law) q.passed
-
+module _ (r : Reading) (state : List ℕ) (passed : good (fault_before_step r.fault (length state)).refusal ≡ true) where
   pub state_whole : length state ≡ state_length
-  state_whole = eqb-true (length state) state_length (before_good r.fault (length state) before_passed).1
+  state_whole = eqb-true (length state) state_length (before_good r.fault (length state) passed).1
 
   pub set_passes : PassesIfRead r → good (record_fault (used r.set)).refusal ≡ true
-  set_passes p = p (before_good r.fault (length state) before_passed).0
+  set_passes p = p (before_good r.fault (length state) passed).0
 
-  pub step_answered : (first : Priority) (a : Stepped) (lines : List ℕ) → a ≡ step_for first r state
-      → Answered first r state lines (step_answer a (length lines)) (step_state a state (length lines)) (step_buffer a lines)
-  step_answered first a lines e = answered first r state lines a (rw e (agrees first r state before_passed q.bits)) state_whole
+  pub step_answered : (first : Priority) (a : Stepped) (lines : List ℕ) → r.set.map.0 < 65536 → a ≡ step_for first r state
+      → Answered first r state lines (unless (room_fault a (length lines)) (step_answer a (length lines))) (step_state a state (length lines)) (step_buffer a lines)
+  step_answered first a lines m e = answered first r state lines a (rw e (agrees first r state passed m)) state_whole
+
+-- what C gets of it
+pub slot_told : (first : Priority) (r : Reading) (state : List ℕ) (room : ℕ) {x : Result Written Fault} (w : Written)
+    → x ≡ unless (slot_fault_with first r state room) (slot_answer_with first r state room)
+    → MatchResult x (λ a. w ≡ a) (λ f. w ≡ refused_writing f) → w ≡ slot_answer_with first r state room
+unfolding slot_answer_with
+slot_told first r state room w e h = told (slot_fault_with first r state room) _ w e h

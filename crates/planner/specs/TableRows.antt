@@ -1,7 +1,8 @@
 -- The rows of a table: four numbers each, one row more after those that stand there, and what the three ways out leave behind.
-use Rattle.std.specs.Prelude.{◌≡◌, refl, true, false, cond, List, [], ◌∷◌, ◌++◌, ℕ, zero, suc, ◌+◌, ◌*◌, ◌≤◌, ◌<◌, length, take, drop, set}
-use Rattle.std.proofs.Common.{sym, ap, ap₂, ◌∙◌, add-one, arith, lt-ltb, le-ltb, length-append, length-set, take_at, drop-drop}
-use Rattle.std.proofs.lemmas.List.Edits.{sets-eq}
+use Rattle.std.specs.Prelude.{◌≡◌, refl, true, false, cond, List, [], ◌∷◌, ◌++◌, ℕ, zero, suc, ◌+◌, ◌*◌, ◌≤◌, ◌<◌, length, take, drop, Result, Ok, Err, MatchResult}
+use Rattle.std.proofs.Common.{sym, ap, ap₂, ◌∙◌, add-one, arith, lt-ltb, le-ltb, length-append, take_at, drop-drop}
+use Rattle.std.proofs.lemmas.Slice.{put_mid-paste}
+use borrow.Rule.Slice.PartMut.{put_mid}
 use Rattle.std.proofs.Math.Seq.{drop-append-add}
 use Rattle.model.specs.declared.kinds.FlowSet.{FlowSet}
 use Rattle.model.specs.declared.answers.Fault.{Fault}
@@ -12,28 +13,16 @@ use Rattle.model.specs.Refusals.{good, fault_at, no_fault}
 use Rattle.model.specs.Sets.{used}
 use Rattle.document.specs.Delay.{bounds_of}
 use Rattle.document.specs.Reader.{refused_writing}
+use Rattle.superframe_table.specs.SetFaults.{unless, err_unless}
+use Rattle.planner.specs.OfReading.{told}
 use Rattle.document.specs.ForC.{bounds_row, bounds_rows, rows_read, table_fault, table_answer, table_after}
 use Rattle.laws.specs.Used.{used_count}
 use Rattle.planner.specs.StepWritten.{written}
 
--- a row that fits still fits after its first numbers are stored
-pub in_row_2 : (l : List ℕ) (i a : ℕ) → i + 4 ≤ length l → i + 1 < length (set l i a)
-in_row_2 l i a h = rw (length-set l i a) (omega arith)
-
-pub in_row_3 : (l : List ℕ) (i a b : ℕ) → i + 4 ≤ length l → i + 2 < length (set (set l i a) (i + 1) b)
-in_row_3 l i a b h = rw (length-set (set l i a) (i + 1) b, length-set l i a) (omega arith)
-
-pub in_row_4 : (l : List ℕ) (i a b c : ℕ) → i + 4 ≤ length l → i + 3 < length (set (set (set l i a) (i + 1) b) (i + 2) c)
-in_row_4 l i a b c h = rw (length-set (set (set l i a) (i + 1) b) (i + 2) c, length-set (set l i a) (i + 1) b, length-set l i a) (omega arith)
-
--- four numbers stored from place i on
-pub row_stored : (l : List ℕ) (i a b c d : ℕ) → i + 4 ≤ length l
-    → set (set (set (set l i a) (i + 1) b) (i + 2) c) (i + 3) d ≡ take i l ++ (a ∷ b ∷ c ∷ d ∷ []) ++ drop (i + 4) l
-row_stored l i a b c d h =
-    let one : i + 1 ≡ suc i = omega arith in
-    let two : i + 2 ≡ suc (suc i) = omega arith in
-    let three : i + 3 ≡ suc (suc (suc i)) = omega arith in
-    rw (one, two, three) (sets-eq (a ∷ b ∷ c ∷ d ∷ []) l i h)
+-- four numbers put from place i on
+pub row_put : (l row : List ℕ) (i k a b c d : ℕ) → row ≡ a ∷ b ∷ c ∷ d ∷ [] → k ≡ 4
+    → put_mid i k l row ≡ take i l ++ (a ∷ b ∷ c ∷ d ∷ []) ++ drop (i + 4) l
+row_put l row i k a b c d e n = put_mid-paste i k l row (a ∷ b ∷ c ∷ d ∷ []) 4 e (sym n) refl
 
 pub rows_length : (s : FlowSet) (n : ℕ) → length (bounds_rows s n) ≡ 4 * n
 unfolding bounds_rows
@@ -63,36 +52,44 @@ rows_more_law s k before table e =
 -- ---- what the three ways out leave behind
 
 -- the answer and the table after a call
-abbrev pub TableLeft : Reading → List ℕ → Written → List ℕ → Type 0
-TableLeft r table w t = (w ≡ table_answer r (length table)) × (t ≡ table_after r table)
+abbrev pub TableLeft : Reading → List ℕ → Result Written Fault → List ℕ → Type 0
+TableLeft r table w t = (w ≡ unless (table_fault r (length table)) (table_answer r (length table))) × (t ≡ table_after r table)
 
 abbrev ifGood {ℓ} : {A : Type ℓ} → Fault → A → A → A
 ifGood f x y = cond (good f.refusal) x y
 
 left : (r : Reading) (table : List ℕ) (f : Fault) → table_fault r (length table) ≡ f
-    → TableLeft r table (written f (ifGood f (length (rows_read r)) 0)) (ifGood f (rows_read r ++ drop (length (rows_read r)) table) table)
+    → TableLeft r table (unless f (written f (ifGood f (length (rows_read r)) 0))) (ifGood f (rows_read r ++ drop (length (rows_read r)) table) table)
 unfolding table_answer table_after
 left r table f e = rw (← e) (refl, refl)
 
-pub table_refused : (r : Reading) (table : List ℕ) → good r.fault.refusal ≡ false → TableLeft r table (refused_writing r.fault) table
+pub table_refused : (r : Reading) (table : List ℕ) (f : Fault) → f ≡ r.fault → good f.refusal ≡ false → TableLeft r table (Err f) table
 unfolding table_fault
-table_refused r table h = rw h at (left r table r.fault (rw h))
+table_refused r table f e h =
+    let g : good r.fault.refusal ≡ false = rw e at h in
+    let w = left r table r.fault (rw g) in (err_unless f r.fault _ e g ∙ w.0, rw g at w.1)
 
 needed : (r : Reading) → length (rows_read r) ≡ 4 * r.set.count
 needed r = rows_length (used r.set) (used r.set).count ∙ ap (λ (n : ℕ). 4 * n) (used_count r.set)
 
 pub table_no_room : (r : Reading) (table : List ℕ) → good r.fault.refusal ≡ true → length table < 4 * r.set.count
-    → TableLeft r table (refused_writing (fault_at NoRoom 0)) table
+    → TableLeft r table (Err (fault_at NoRoom 0)) table
 unfolding table_fault
 table_no_room r table h l = left r table (fault_at NoRoom 0) (rw (h, lt-ltb (length table) (length (rows_read r)) (omega (arith, needed r))))
 
 pub table_written : (r : Reading) (table : List ℕ) → good r.fault.refusal ≡ true → 4 * r.set.count ≤ length table
-    → TableLeft r table (written no_fault (4 * r.set.count)) (bounds_rows (used r.set) r.set.count ++ drop (4 * r.set.count) table)
+    → TableLeft r table (Ok (written no_fault (4 * r.set.count))) (bounds_rows (used r.set) r.set.count ++ drop (4 * r.set.count) table)
 unfolding table_fault
 table_written r table h l =
     let n = r.set.count in
     let w = left r table no_fault (rw (h, le-ltb (length table) (length (rows_read r)) (omega (arith, needed r)))) in
     let rows : bounds_rows (used r.set) n ≡ rows_read r = ap (bounds_rows (used r.set)) (sym (used_count r.set)) in (
-      ap (written no_fault) (sym (needed r)) ∙ w.0,
+      ap (λ (n : ℕ). Ok (written no_fault n)) (sym (needed r)) ∙ w.0,
       ap₂ (λ (l : List ℕ) (k : ℕ). l ++ drop k table) rows (sym (needed r)) ∙ w.1,
     )
+
+-- what C gets of it
+pub table_told : (r : Reading) (room : ℕ) {x : Result Written Fault} (w : Written) → x ≡ unless (table_fault r room) (table_answer r room)
+    → MatchResult x (λ a. w ≡ a) (λ f. w ≡ refused_writing f) → w ≡ table_answer r room
+unfolding table_answer
+table_told r room w e h = told (table_fault r room) _ w e h

@@ -1,44 +1,43 @@
 // The test for fixed priority for C: the answers for the set that was read, in numbers.
 ghost use Rattle.std.specs.Prelude.{◌≡◌};
+ghost use Rattle.model.specs.Sets.{used};
+ghost use Rattle.document.specs.Fixed.{fixed_bounds_of, fixed_verdict_of};
 ghost use Rattle.document.specs.ForC.{fixed_bounds_numbers, fixed_bounds_of_reading, fixed_verdict_numbers, fixed_verdict_of_reading};
 
 use crate::answers::flow_number;
-use model::{FixedBounds, FixedBoundsAnswer, FixedVerdict, FixedVerdictAnswer, Reading, bit};
+use model::{
+    FixedBounds, FixedBoundsAnswer, FixedVerdict, FixedVerdictAnswer, FlowSet, Reading, bit,
+};
 
 // The verdict of the set that was read, or the reader's refusal.
 pub fn verdict_of_reading(reading: Reading) -> FixedVerdict
     ensures { result ≡ fixed_verdict_of_reading reading }
 {
-    let fault = reading.fault;
-    if fault.refuses() {
-        return FixedVerdict::refused(fault);
-    }
-    let set = reading.set;
-    delay::fixed_verdict(set)
+    // Kept: a closure, since a function of another crate's private module has no contract as a value.
+    let of_set = |set: FlowSet| -> FixedVerdict
+        ensures { result ≡ fixed_verdict_of (used set) }
+    { delay::fixed_verdict(set) };
+    reading.answer(of_set)
 }
 
 // The bound of one flow of the set that was read, or the reader's refusal.
 pub fn bounds_of_reading(reading: Reading, flow: u32) -> FixedBounds
     ensures { result ≡ fixed_bounds_of_reading reading flow }
 {
-    let fault = reading.fault;
-    if fault.refuses() {
-        return FixedBounds::refused(fault);
-    }
-    let set = reading.set;
-    delay::fixed_bounds(set, flow_number(flow, set.count))
+    let of_flow = |set: FlowSet| -> FixedBounds
+        ensures { result ≡ fixed_bounds_of (used set) flow }
+    { delay::fixed_bounds(set, flow_number(flow, set.count)) };
+    reading.answer(of_flow)
 }
 
 // A verdict as C is answered: the refusal by document 01's number, a test as 1 or 0.
 pub fn fixed_verdict_numbers(v: FixedVerdict) -> FixedVerdictAnswer
     ensures { result ≡ fixed_verdict_numbers v }
 {
-    let fault = v.fault;
-    let refusal = fault.refusal;
     FixedVerdictAnswer {
-        refusal: refusal.code() as u32,
-        line: fault.line,
-        field: fault.field,
+        refusal: u32::from(v.fault.refusal.code()),
+        line: v.fault.line,
+        field: v.fault.field,
         admitted: bit(v.admitted),
         judged: v.judged,
     }
@@ -48,15 +47,13 @@ pub fn fixed_verdict_numbers(v: FixedVerdict) -> FixedVerdictAnswer
 pub fn fixed_bounds_numbers(b: FixedBounds) -> FixedBoundsAnswer
     ensures { result ≡ fixed_bounds_numbers b }
 {
-    let fault = b.fault;
-    let refusal = fault.refusal;
     FixedBoundsAnswer {
-        refusal: refusal.code() as u32,
-        line: fault.line,
-        field: fault.field,
+        refusal: u32::from(b.fault.refusal.code()),
+        line: b.fault.line,
+        field: b.fault.field,
         work: b.work,
         bound: b.bound,
-        deadline: b.deadline.0 as u32,
+        deadline: u32::from(b.deadline.0),
         judged: bit(b.judged),
     }
 }

@@ -21,8 +21,8 @@ mod tables;
 pub use answers::{bounds_numbers, slot_numbers, verdict_numbers};
 pub use fixed::{fixed_bounds_numbers, fixed_verdict_numbers};
 use model::{
-    BoundsAnswer, FixedBoundsAnswer, FixedVerdictAnswer, LinesAnswer, Order, RowsAnswer,
-    SlotAnswer, SuperframeAnswer, TableAnswer, VerdictAnswer,
+    BoundsAnswer, FixedBoundsAnswer, FixedVerdictAnswer, LinesAnswer, Order, Refusable, RowsAnswer,
+    SlotAnswer, SuperframeAnswer, TableAnswer, VerdictAnswer, Written,
 };
 pub use superframes::superframe_numbers;
 
@@ -30,8 +30,7 @@ pub use superframes::superframe_numbers;
 pub fn rembasuk_verdict(text: &[u8]) -> VerdictAnswer
     ensures { result ≡ verdict_for_c text.now }
 {
-    let reading = text::read(text);
-    let verdict = answers::verdict_of_reading(reading);
+    let verdict = answers::verdict_of_reading(text::read(text));
     verdict_numbers(verdict)
 }
 
@@ -39,8 +38,7 @@ pub fn rembasuk_verdict(text: &[u8]) -> VerdictAnswer
 pub fn rembasuk_bounds(text: &[u8], flow: u32) -> BoundsAnswer
     ensures { result ≡ bounds_for_c text.now flow }
 {
-    let reading = text::read(text);
-    let bounds = answers::bounds_of_reading(reading, flow);
+    let bounds = answers::bounds_of_reading(text::read(text), flow);
     bounds_numbers(bounds)
 }
 
@@ -50,9 +48,8 @@ pub fn rembasuk_all_bounds(text: &[u8], table: &mut [u32]) -> TableAnswer
     ensures value { result ≡ all_bounds_for_c text.now (length table.old) }
     ensures table_after_is { table.new ≡ table_after (read_text text.now) table.old }
 {
-    let reading = text::read(text);
-    let written = tables::table_of_reading(reading, table);
-    answers::table_numbers(written)
+    let written = tables::table_of_reading(text::read(text), table);
+    answers::table_numbers(written.unwrap_or_else(Written::refused))
 }
 
 // One slot of the set in `text`: the next state over the 68 bytes, the slot's `send` lines at the start of `lines`.
@@ -69,8 +66,7 @@ pub fn rembasuk_slot(text: &[u8], state: &mut [u8], lines: &mut [u8]) -> SlotAns
 pub fn rembasuk_superframe_size(text: &[u8]) -> SuperframeAnswer
     ensures { result ≡ size_for_c text.now }
 {
-    let reading = text::read(text);
-    let size = superframes::size_of_reading(reading);
+    let size = superframes::size_of_reading(text::read(text));
     superframe_numbers(size)
 }
 
@@ -80,8 +76,7 @@ pub fn rembasuk_superframe(text: &[u8], table: &mut [u16]) -> SuperframeAnswer
     ensures value { result ≡ superframe_for_c text.now (length table.old) }
     ensures table_after_is { table.new ≡ superframe_after (read_text text.now) table.old }
 {
-    let reading = text::read(text);
-    let tabled = superframes::superframe_of_reading(reading, table);
+    let tabled = superframes::superframe_of_reading(text::read(text), table);
     superframe_numbers(tabled)
 }
 
@@ -114,8 +109,7 @@ pub fn rembasuk_channel(map: u32, slot: u32, offset: u32) -> u32
 pub fn rembasuk_fixed_verdict(text: &[u8]) -> FixedVerdictAnswer
     ensures { result ≡ fixed_verdict_for_c text.now }
 {
-    let reading = text::read(text);
-    let verdict = fixed::verdict_of_reading(reading);
+    let verdict = fixed::verdict_of_reading(text::read(text));
     fixed_verdict_numbers(verdict)
 }
 
@@ -123,8 +117,7 @@ pub fn rembasuk_fixed_verdict(text: &[u8]) -> FixedVerdictAnswer
 pub fn rembasuk_fixed_bounds(text: &[u8], flow: u32) -> FixedBoundsAnswer
     ensures { result ≡ fixed_bounds_for_c text.now flow }
 {
-    let reading = text::read(text);
-    let answer = fixed::bounds_of_reading(reading, flow);
+    let answer = fixed::bounds_of_reading(text::read(text), flow);
     fixed_bounds_numbers(answer)
 }
 

@@ -3,19 +3,15 @@ ghost use Rattle.std.specs.Prelude.{◌≡◌, length};
 ghost use Rattle.document.specs.ForC.{channel_for_c, lines_numbers, read_numbers, size_of_reading, superframe_after, superframe_numbers, superframe_of_reading};
 
 use model::{
-    ChannelMap, LinesAnswer, Reading, RowsAnswer, Slot, SuperframeAnswer, Tabled, Written,
+    ChannelMap, LinesAnswer, Reading, Refusable, RowsAnswer, Slot, SuperframeAnswer, Tabled,
+    Written,
 };
 
 // How long the table of the set that was read is, or the reader's refusal.
 pub fn size_of_reading(reading: Reading) -> Tabled
     ensures { result ≡ size_of_reading reading }
 {
-    let fault = reading.fault;
-    if fault.refuses() {
-        return Tabled::refused(fault);
-    }
-    let set = reading.set;
-    superframe_table::superframe_size(set)
+    reading.answer(superframe_table::superframe_size)
 }
 
 // The superframe of the set that was read, or the reader's refusal; a refusal changes nothing.
@@ -23,24 +19,21 @@ pub fn superframe_of_reading(reading: Reading, table: &mut [u16]) -> Tabled
     ensures value { result ≡ superframe_of_reading reading (length table.old) }
     ensures table_after_is { table.new ≡ superframe_after reading table.old }
 {
-    let fault = reading.fault;
-    if fault.refuses() {
-        return Tabled::refused(fault);
+    // Kept: no closure of the set, since nothing would be known of the table that it captures.
+    match reading.fault.check() {
+        Ok(()) => superframe_table::superframe(reading.set, table),
+        Err(fault) => Tabled::refused(fault),
     }
-    let set = reading.set;
-    superframe_table::superframe(set, table)
 }
 
 // A superframe's answer in numbers: the refusal by document 01's number.
 pub fn superframe_numbers(a: Tabled) -> SuperframeAnswer
     ensures { result ≡ superframe_numbers a }
 {
-    let fault = a.fault;
-    let refusal = fault.refusal;
     SuperframeAnswer {
-        refusal: refusal.code() as u32,
-        line: fault.line,
-        field: fault.field,
+        refusal: u32::from(a.fault.refusal.code()),
+        line: a.fault.line,
+        field: a.fault.field,
         hyper: a.hyper,
         numbers: a.numbers,
     }
@@ -50,11 +43,9 @@ pub fn superframe_numbers(a: Tabled) -> SuperframeAnswer
 pub fn lines_numbers(w: Written) -> LinesAnswer
     ensures { result ≡ lines_numbers w }
 {
-    let fault = w.fault;
-    let refusal = fault.refusal;
     LinesAnswer {
-        refusal: refusal.code() as u32,
-        line: fault.line,
+        refusal: u32::from(w.fault.refusal.code()),
+        line: w.fault.line,
         length: w.length,
     }
 }
@@ -63,11 +54,9 @@ pub fn lines_numbers(w: Written) -> LinesAnswer
 pub fn read_numbers(a: Tabled) -> RowsAnswer
     ensures { result ≡ read_numbers a }
 {
-    let fault = a.fault;
-    let refusal = fault.refusal;
     RowsAnswer {
-        refusal: refusal.code() as u32,
-        line: fault.line,
+        refusal: u32::from(a.fault.refusal.code()),
+        line: a.fault.line,
         numbers: a.numbers,
     }
 }
@@ -76,8 +65,8 @@ pub fn read_numbers(a: Tabled) -> RowsAnswer
 pub fn channel_of(bits: u32, slot: u32, offset: u32) -> u32
     ensures { result ≡ channel_for_c bits slot offset }
 {
-    if 65535 < bits {
-        return 0;
+    match u16::try_from(bits) {
+        Ok(map) => u32::from(machine::radio_channel(ChannelMap::new(map), Slot(slot), offset)),
+        Err(_) => 0,
     }
-    machine::radio_channel(ChannelMap::new(bits as u16), Slot(slot), offset) as u32
 }

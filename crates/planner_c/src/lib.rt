@@ -1,4 +1,5 @@
 // What C calls, exported: each function is planner's of the same name, with the same clauses.
+// Kept: the functions stand twice, since `rt` exports to C from a static library alone, and other crates can stand only on `planner`, a library.
 #![tactic(auto)]
 
 ghost use Rattle.std.specs.Prelude.{◌≡◌, length};

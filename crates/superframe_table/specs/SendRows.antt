@@ -1,7 +1,7 @@
 -- The rows of a slot are those of its step's sends, and their lines have at most 320 bytes.
 use Rattle.std.specs.Prelude.{◌≡◌, Bool, take, get_or}
 use Rattle.std.proofs.Math.Path.{refl, ap}
-use Rattle.std.proofs.Common.{sym, ◌∙◌, add-one, arith, take-suc}
+use Rattle.std.proofs.Common.{sym, ◌∙◌, add-one, arith, take-suc, take_all, le_refl}
 use Rattle.std.proofs.Math.Bool.{true, false, cond}
 use mathlib.Core.List.{List, [], ◌∷◌, ◌++◌, map, map-append, append-nil}
 use Prim.Native.Nat.{ℕ, zero, suc, ◌+◌, ◌-◌, ◌*◌, ◌≤◌, ◌<◌, zero-le}
@@ -136,6 +136,9 @@ sends_next next xs i d h =
     ∙ sym (lines_append (map (send_row next) (take i xs)) (send_row next (get_or xs i d) ∷ []))
     ∙ ap row_lines (sym (map-append (send_row next) (take i xs) (get_or xs i d ∷ [])))
     ∙ ap (λ (l : List Send). row_lines (map (send_row next) l)) (sym (take-suc xs i d h) ∙ ap (λ (n : ℕ). take n xs) (sym (add-one i)))
+
+pub sends_all : (next : State) (xs : List Send) → row_lines (map (send_row next) (take (length xs) xs)) ≡ row_lines (map (send_row next) xs)
+sends_all next xs = ap (λ (l : List Send). row_lines (map (send_row next) l)) (take_all (length xs) xs (le_refl (length xs)))
 
 -- and of one slot more, by its step's answer
 pub part_next : (s : FlowSet) → s.map.0 < 65536 → (st : State) (n : ℕ) (a : Stepped) → a ≡ step_of (used s) (state_after (used s) st n)

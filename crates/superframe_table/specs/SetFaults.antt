@@ -1,12 +1,19 @@
 -- What refuses a superframe before its hyper-period is looked at: the set's own refusals, 14 and 15.
-use Rattle.std.specs.Prelude.{◌≡◌, refl, Bool, true, false, not, ◌||◌, cond, ltb}
+use Rattle.std.specs.Prelude.{◌≡◌, refl, Bool, true, false, not, ◌||◌, cond, ltb, Result, Ok, Err}
 use Rattle.std.proofs.Common.{sym, ap, ◌∙◌}
 use Rattle.std.proofs.lemmas.Bool.{false≢true}
 use Rattle.model.specs.declared.{kinds.FlowSet.{FlowSet}, answers.{Fault.{Fault}, Refusal.{Refusal}, Verdict.{Verdict}}}
 use Rattle.model.specs.declared.answers.Refusal.TheVariants.{NotAdmitted, LateStart, LongHyperPeriod}
-use Rattle.model.specs.Refusals.{good, fault_at, no_fault, or_else}
+use Rattle.model.specs.Refusals.{good, checked, fault_at, no_fault, or_else}
 use Rattle.document.specs.{Reader.{record_fault}, Delay.{verdict_if, verdict_of}, Superframe.{hyper, most_hyper, neither_admits, starts_late, size_fault}}
-use Rattle.laws.specs.Accepted.{or_else_good}
+use Rattle.laws.specs.{Accepted.{or_else_good}, Judged.{checked_ok}}
+
+-- an answer, or what refuses it
+abbrev pub unless : {A : Type 0} → Fault → A → Result A Fault
+unless f a = cond (good f.refusal) (Ok a) (Err f)
+
+pub err_unless : {A : Type 0} (f g : Fault) (a : A) → f ≡ g → good g.refusal ≡ false → Err f ≡ unless g a
+err_unless f g a e h = rw (e, h)
 
 -- the refusals before 16: the set's own, 14, 15
 unfoldable pub set_fault : FlowSet → Fault
@@ -52,15 +59,16 @@ pub size_quiet : (s : FlowSet) → good (size_fault s).refusal ≡ true → size
 unfolding long_fault
 size_quiet s = rw (size_parts s) (quiet_or (set_fault s) (long_fault s) (quiet_if (ltb most_hyper (hyper s)) LongHyperPeriod no_fault refl (λ h. refl)))
 
-pub set_accepted : (s : FlowSet) (f : Fault) → f ≡ set_fault s → good f.refusal ≡ true → good (record_fault s).refusal ≡ true
+pub set_accepted : (s : FlowSet) → good (set_fault s).refusal ≡ true → good (record_fault s).refusal ≡ true
 unfolding set_fault
-set_accepted s f e h = (or_else_good (record_fault s) _ (ap (λ (f : Fault). good f.refusal) (sym e) ∙ h)).0
+set_accepted s h = (or_else_good (record_fault s) _ h).0
 
 -- ---- the ways out of the code: the verdict has the set's own refusal
 
-pub verdict_passes : (s : FlowSet) (v : Verdict) → v ≡ verdict_of s → good v.fault.refusal ≡ true → good (record_fault s).refusal ≡ true
+pub verdict_passes : (s : FlowSet) (v : Verdict) {x : Result Unit Fault} {u : Unit} → v ≡ verdict_of s → x ≡ checked v.fault → x ≡ Ok u
+    → good (record_fault s).refusal ≡ true
 unfolding verdict_of
-verdict_passes s v a h = go (good (record_fault s).refusal) refl (ap (λ (v : Verdict). good v.fault.refusal) (sym a) ∙ h)
+verdict_passes s v a e h = go (good (record_fault s).refusal) refl (ap (λ (v : Verdict). good v.fault.refusal) (sym a) ∙ checked_ok v.fault e h)
   where
     go : (t : Bool) → good (record_fault s).refusal ≡ t → good (verdict_if s t).fault.refusal ≡ true → good (record_fault s).refusal ≡ true
     go true e k = e
@@ -78,8 +86,8 @@ set_refused s v a h =
     go true k = absurd (false≢true (sym k))
     go false k = refl
 
-pub neither_by : (s : FlowSet) (v : Verdict) (b : Bool) → v ≡ verdict_of s → b ≡ not (v.basic || v.tightened) → neither_admits s ≡ b
-neither_by s v b a e = ap (λ (v : Verdict). not (v.basic || v.tightened)) (sym a) ∙ sym e
+pub neither_by : (s : FlowSet) (v : Verdict) (b : Bool) → v ≡ verdict_of s → b ≡ (v.basic || v.tightened) → neither_admits s ≡ not b
+neither_by s v b a e = ap (λ (v : Verdict). not (v.basic || v.tightened)) (sym a) ∙ ap not (sym e)
 
 pub set_not_admitted : (s : FlowSet) → good (record_fault s).refusal ≡ true → neither_admits s ≡ true → fault_at NotAdmitted 0 ≡ set_fault s
 unfolding set_fault

@@ -14,16 +14,7 @@ pub fn starts_late(s: FlowSet) -> bool
     requires { good (record_fault (used s)).refusal ≡ true }
     ensures { result ≡ starts_late (used s) }
 {
-    let n = s.count as usize;
-    let mut k: usize = 0;
-    while k < n {
-        let f = s.flows[k];
-        if f.start > 0 {
-            return true;
-        }
-        k += 1;
-    }
-    false
+    s.flows.iter().take(s.count as usize).any(|f| f.start > 0)
 }
 
 // How many rows one flow has in a hyper-period of at most 65,536 slots: C for each of its periods, so at most one a slot.
@@ -31,8 +22,7 @@ fn flow_rows(hyper: u32, f: Flow) -> u32
     requires { GoodFlow (exact f) × (hyper ≤ most_hyper) }
     ensures { (result ≡ hyper / f.period.0 * work f) × (result ≤ most_hyper) }
 {
-    let t = f.period.slots() as u32;
-    hyper / t * f.work()
+    hyper / u32::from(f.period.0) * f.work()
 }
 
 // How many rows the table of an accepted set has, whose hyper-period is at most 65,536.
@@ -41,12 +31,9 @@ pub fn row_count(s: FlowSet, slots: u32) -> u32
     requires slots_value { (slots ≡ hyper (used s)) × (slots ≤ most_hyper) }
     ensures { (result ≡ row_count (used s)) × (result ≤ 4194304) }
 {
-    let n = s.count as usize;
     let mut rows: u32 = 0;
-    let mut k: usize = 0;
-    while k < n {
+    for k in 0..s.count as usize {
         rows += flow_rows(slots, s.flows[k]);
-        k += 1;
     }
     rows
 }

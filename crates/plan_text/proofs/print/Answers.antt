@@ -1,5 +1,4 @@
 -- The text goes into a buffer that is long enough for every text of a program, and from there into the lent one if there is room.
-use Prim.{tt}
 use mathlib.Core.Path.{◌≡◌, ap, ◌∙◌}
 use Prim.Native.Nat.{ℕ}
 use lib.ListN.{length, length-replicate, replicate}
@@ -13,34 +12,19 @@ zeros : length (replicate {A = ℕ} most_plan 0) ≡ most_plan
 zeros = length-replicate {A = ℕ} most_plan 0
 
 pub returns-then-out-n : goal.returns-then-out-n
-returns-then-out-n c =
+returns-then-out-n g c =
     let a = c.args in
-    let w = no_room a.by a.input.now c.put_text-n.ensures zeros a.out.now c.if-out-n.true in record { value = c.refused.ensures ∙ ap refused_writing c.of.ensures ∙ w.0; out_after = w.1 }
+    let w = no_room g.T.Told.all_lines g.met.T.Told.laws.short a.input.now c.put_text-n.ensures zeros a.out.now c.if-out-n.true in record { value = c.refused.ensures ∙ ap refused_writing c.of.ensures ∙ w.0; out_after = w.1 }
 
 pub slice_bounds-text-end : goal.slice_bounds-text-end
-slice_bounds-text-end c =
-    whole_long c.args.by c.args.input.now c.put_text-n.ensures zeros
+slice_bounds-text-end g c =
+    whole_long g.T.Told.all_lines g.met.T.Told.laws.short c.args.input.now c.put_text-n.ensures zeros
 
 pub slice_bounds-put_word-end : goal.slice_bounds-put_word-end
-slice_bounds-put_word-end c =
-    whole_part c.args.by c.args.input.now c.put_text-n.ensures zeros
+slice_bounds-put_word-end g c =
+    whole_part g.T.Told.all_lines g.met.T.Told.laws.short c.args.input.now c.put_text-n.ensures zeros
 
 pub returns : goal.returns
-returns c =
+returns g c =
     let a = c.args in
-    let z = room a.by a.input.now c.put_text-n.ensures zeros a.out.now _ _ c.if-out-n.false c.put_word.ensures in record { value = ap (λ (f : Fault). record { fault = f; length = c.put_text-n.result }) c.none.ensures ∙ z.0; out_after = z.1 }
-
-pub put_text-n-requires : goal.put_text-n-requires
-put_text-n-requires c = tt
-
-pub of-requires : goal.of-requires
-of-requires c = tt
-
-pub refused-requires : goal.refused-requires
-refused-requires c = tt
-
-pub put_word-requires : goal.put_word-requires
-put_word-requires c = tt
-
-pub none-requires : goal.none-requires
-none-requires c = tt
+    let z = room g.T.Told.all_lines g.met.T.Told.laws.short a.input.now c.put_text-n.ensures zeros a.out.now _ _ c.if-out-n.false c.put_word.ensures in record { value = ap (λ (f : Fault). record { fault = f; length = c.put_text-n.result }) c.none.ensures ∙ z.0; out_after = z.1 }

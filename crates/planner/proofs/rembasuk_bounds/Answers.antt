@@ -9,4 +9,4 @@ unfolding bounds_for_c
 returns c =
     let flow = c.args.flow in
     c.bounds_numbers.ensures
-    ∙ ap bounds_numbers (c.bounds_of_reading-bounds.ensures ∙ ap (λ (r : Reading). bounds_of_reading r flow) c.read-reading.ensures.value)
+    ∙ ap bounds_numbers (c.bounds_of_reading-bounds.ensures ∙ ap (λ (r : Reading). bounds_of_reading r flow) c.read.ensures.value)

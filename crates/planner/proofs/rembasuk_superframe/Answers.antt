@@ -10,5 +10,5 @@ unfolding superframe_for_c
 returns c =
     let table = c.args.table.now in
     let w = c.superframe_of_reading-tabled.ensures in
-    let r = c.read-reading.ensures.value in
+    let r = c.read.ensures.value in
     record { value = c.superframe_numbers.ensures ∙ ap superframe_numbers (w.value ∙ ap (λ (x : Reading). superframe_of_reading x (length table)) r); table_after_is = w.table_after_is ∙ ap (λ (x : Reading). superframe_after x table) r }

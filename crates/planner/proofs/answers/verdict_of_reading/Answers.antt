@@ -1,16 +1,8 @@
--- `verdict_of_reading` goes by whether the reader refuses, as the definition does. Assumes nothing.
+-- `verdict_of_reading` answers of the set, or with the reader's refusal. Assumes nothing.
 use Rattle.document.specs.ForC.{verdict_of_reading}
-use Rattle.laws.specs.Codes.{accepts, refuses}
+use Rattle.planner.specs.OfReading.{answered}
 use Rattle.planner.proofs.answers.verdict_of_reading.Goals as goal
-
-pub returns-then-refuses : goal.returns-then-refuses
-unfolding verdict_of_reading
-returns-then-refuses c =
-    let f = c.args.reading.fault in
-    rw (refuses f c.refuses.ensures c.if-refuses.true) c.refused.ensures
 
 pub returns : goal.returns
 unfolding verdict_of_reading
-returns c =
-    let f = c.args.reading.fault in
-    rw (accepts f c.refuses.ensures c.if-refuses.false) c.verdict.ensures.answer
+returns c = let w = c.answer.ensures in answered c.args.reading.fault c.answer.result (λ g. (w.answered g).1.0) w.refused

@@ -1,18 +1,18 @@
 -- `channel_of` refuses what is no map, and else asks the machine. Assumes nothing.
-use mathlib.Core.Path.{ap, ◌∙◌}
-use Prim.Native.Nat.{ℕ}
+use Prim.Native.Nat.{◌≤◌}
+use native.Mathlib.Omega.{arith}
 use borrow.Author.Tests.{lt-ltb, le-ltb}
-use Rattle.document.specs.Machine.{radio_channel}
 use Rattle.document.specs.ForC.{channel_for_c}
 use Rattle.planner.proofs.superframes.channel_of.Goals as goal
 
-pub returns-then-bits-gt65535 : goal.returns-then-bits-gt65535
+pub returns-in-Ok : goal.returns-in-Ok
 unfolding channel_for_c
-returns-then-bits-gt65535 c = rw (lt-ltb _ _ c.if-bits-gt65535.true)
-
-pub returns : goal.returns
-unfolding channel_for_c
-returns c =
+returns-in-Ok c =
     let a = c.args in
-    rw (le-ltb _ _ c.if-bits-gt65535.false)
-    (c.radio_channel.ensures ∙ ap (λ (m : ℕ). radio_channel m a.slot a.offset) c.new.ensures)
+    let h = c.in-Ok.ensures in
+    let l : a.bits ≤ 65535 = omega (arith, h.0) in
+    rw (le-ltb _ _ l, ← h.1, ← c.new.ensures, c.from.ensures) c.radio_channel.ensures
+
+pub returns-in-Err : goal.returns-in-Err
+unfolding channel_for_c
+returns-in-Err c = let h = c.in-Err.ensures in rw (lt-ltb 65535 c.args.bits (omega (arith, h)))

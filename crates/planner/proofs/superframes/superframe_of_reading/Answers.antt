@@ -1,17 +1,17 @@
 -- `superframe_of_reading` goes by whether the reader refuses; a refusal leaves the table alone. Assumes nothing.
-use mathlib.Core.Path.{refl}
+use mathlib.Core.Path.{refl, ap, ◌∙◌}
+use Rattle.model.specs.Refusals.{refused_table}
 use Rattle.document.specs.ForC.{superframe_after, superframe_of_reading}
-use Rattle.laws.specs.Codes.{accepts, refuses}
+use Rattle.laws.specs.Judged.{checked_ok, checked_err}
 use Rattle.planner.proofs.superframes.superframe_of_reading.Goals as goal
 
-pub returns-then-refuses : goal.returns-then-refuses
+pub returns-in-Ok : goal.returns-in-Ok
 unfolding superframe_of_reading superframe_after
-returns-then-refuses c =
-    let f = c.args.reading.fault in
-    rw (refuses f c.refuses.ensures c.if-refuses.true) (record { value = c.refused.ensures; table_after_is = refl })
+returns-in-Ok c = rw (checked_ok c.args.reading.fault c.check.ensures c.in-Ok.is) c.superframe.ensures
 
-pub returns : goal.returns
+pub returns-in-Err : goal.returns-in-Err
 unfolding superframe_of_reading superframe_after
-returns c =
-    let f = c.args.reading.fault in
-    rw (accepts f c.refuses.ensures c.if-refuses.false) (record { value = c.superframe.ensures.value; table_after_is = c.superframe.ensures.table_after_is })
+returns-in-Err c =
+    let w = checked_err c.args.reading.fault c.check.ensures c.in-Err.is in
+    let g = rw w.0 at w.1 in
+    rw g (record { value = c.refused.ensures ∙ ap refused_table w.0; table_after_is = refl })

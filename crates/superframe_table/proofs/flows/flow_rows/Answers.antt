@@ -19,8 +19,8 @@ product h t c f g l d e =
 
 pub overflow_mul-result : goal.overflow_mul-result
 overflow_mul-result c =
-    record { fits = lt_of_le_of_lt (product _ _ _ c.args.f c.requires.0 c.requires.1 c.slots-t.ensures.0 c.work.ensures).1 (lit< tt) }
+    record { fits = lt_of_le_of_lt (product _ _ _ c.args.f c.requires.0 c.requires.1 c.from.ensures c.work.ensures).1 (lit< tt) }
 
 pub returns : goal.returns
 returns c =
-    product _ _ _ c.args.f c.requires.0 c.requires.1 c.slots-t.ensures.0 c.work.ensures
+    product _ _ _ c.args.f c.requires.0 c.requires.1 c.from.ensures c.work.ensures

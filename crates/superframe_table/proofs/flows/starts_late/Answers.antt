@@ -1,21 +1,26 @@
-use mathlib.Core.Path.{sym}
+-- `starts_late` looks at the flows that count. Assumes nothing beyond its `requires`.
+use mathlib.Core.Path.{◌≡◌}
+use lib.{Dec.{ltb}, ListN.{take}}
+use native.Mathlib.Omega.{arith}
+use borrow.Author.Rules.{rules}
+use borrow.Author.Tests.{tests}
+use Rattle.std.specs.List.{list_any}
+use Rattle.std.proofs.lemmas.Iterator.{YieldsList-from_slice, YieldsList-from_take}
+use Rattle.std.proofs.lemmas.Iterator.Search.{any_from_yields_List}
 use Rattle.model.specs.{Sets.{used}}
-use Rattle.laws.specs.{Accepted.{accepted}, Loops.{begins, goes_on, ends}, SumLaws.{any_zero}}
+use Rattle.model.specs.declared.kinds.Flow.{Flow}
+use Rattle.laws.specs.Accepted.{accepted}
+use Rattle.text.specs.HeldByCode.{set_held}
 use Rattle.delay.specs.AcceptedFlows.{count_at_law}
-use Rattle.superframe_table.specs.TableFlows.{late_at, late_next, late_none}
+use Rattle.superframe_table.specs.TableFlows.{late_any}
 use Rattle.superframe_table.proofs.flows.starts_late.Goals as goal
 
-pub loop-k-init : goal.loop-k-init
-loop-k-init c = begins (count_at_law c.args.s (accepted (used c.args.s) c.requires), any_zero _)
-
-pub returns-then-f-gt0 : goal.returns-then-f-gt0
-returns-then-f-gt0 c =
-    sym (late_at c.args.s _ c.loop-k-test.true c.if-f-gt0.true)
-
-pub loop-k-preserved : goal.loop-k-preserved
-loop-k-preserved c =
-    let i = c.loop-k.invariant.holds in
-    goes_on c.loop-k-test.true (i.0, late_next c.args.s _ c.loop-k-test.true c.if-f-gt0.false i.1)
-
 pub returns : goal.returns
-returns c = sym (late_none c.args.s (ends c.loop-k.invariant c.loop-k-test.false).1)
+returns c =
+    let s = c.args.s in
+    let few = count_at_law s (accepted (used s) c.requires) in
+    let held = (set_held s _ c.well_formed.0).flows_are in
+    let rest : c.take.result.iter.rest.now ≡ s.flows = rw c.take.ensures.source c.iter.ensures.rest in
+    let chain = YieldsList-from_take s.count (YieldsList-from_slice s.flows rest) c.take.ensures.count in
+    let e : c.any.result ≡ list_any (λ (f : Flow). ltb 0 f.start) (take s.count s.flows) = any_from_yields_List (λ (f : Flow). ltb 0 f.start) _ _ c.any.result c.any.ensures.ran chain (λ x b q k. search (rules, tests)) in
+    late_any s c.any.result (omega arith) e

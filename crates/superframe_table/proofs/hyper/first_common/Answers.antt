@@ -1,16 +1,23 @@
+use Rattle.std.proofs.Common.{le_trans, mul-le-mul_right, arith}
+use Rattle.std.proofs.Math.Nat.{div-mul-le_self}
+use Rattle.document.specs.Superframe.{most_hyper}
 use Rattle.superframe_table.specs.LoadedHyper.{reached_first, reached_end, reached_above, reached_next}
 use Rattle.superframe_table.proofs.hyper.first_common.Goals as goal
 
-pub loop-x-init : goal.loop-x-init
-loop-x-init c = reached_first _ _ c.requires.0
+pub loop-k-init : goal.loop-k-init
+loop-k-init c = reached_first _ _ c.requires.0 c.requires.2
 
 pub returns-then-x-b-eq0 : goal.returns-then-x-b-eq0
-returns-then-x-b-eq0 c = reached_end _ _ _ c.loop-x.invariant c.loop-x-test.true c.if-x-b-eq0.true
+returns-then-x-b-eq0 c =
+    let r = c.requires in
+    let h = le_trans (mul-le-mul_right c.args.a c.loop-k-test.true) (div-mul-le_self most_hyper c.args.a) in
+    reached_end _ _ r.0 r.2 _ c.loop-k.invariant h c.if-x-b-eq0.true
 
-pub loop-x-preserved : goal.loop-x-preserved
-loop-x-preserved c =
-    let p = c.requires in
-    reached_next _ _ _ p.0 p.2 c.loop-x.invariant c.if-x-b-eq0.false
+pub loop-k-preserved : goal.loop-k-preserved
+loop-k-preserved c = reached_next _ _ c.requires.0 c.requires.2 _ c.loop-k.invariant c.if-x-b-eq0.false
 
-pub returns : goal.returns
-returns c = reached_above _ _ _ c.loop-x.invariant c.loop-x-test.false
+pub returns-else-x-b-eq0 : goal.returns-else-x-b-eq0
+returns-else-x-b-eq0 c =
+    let r = c.requires in
+    let h = reached_next _ _ r.0 r.2 _ c.loop-k.invariant c.if-x-b-eq0.false in
+    reached_above _ _ r.0 r.2 _ h (omega arith)

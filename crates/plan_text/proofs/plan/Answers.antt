@@ -1,5 +1,0 @@
--- `plan` is `print` by its order.
-use Rattle.plan_text.proofs.plan.Goals as goal
-
-pub returns : goal.returns
-returns c = c.print.ensures
