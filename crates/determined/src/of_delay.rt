@@ -1,95 +1,130 @@
 // The two delay tests and that for fixed priority, each called twice.
-ghost use Rattle.std.specs.Prelude.{◌≡◌};
+ghost use Rattle.std.specs.Prelude.{◌≡◌, true};
+ghost use Rattle.model.specs.Refusals.{good};
 ghost use Rattle.model.specs.Sets.{used};
-ghost use Rattle.delay.specs.AllBounds.{AllBoundsOf};
-ghost use Rattle.delay.specs.AllFixed.{AllFixedOf};
+ghost use Rattle.document.specs.Reader.{record_fault};
+ghost use Rattle.delay.specs.AllBounds.{AllBoundsAnswer, AllBoundsOf};
+ghost use Rattle.delay.specs.AllFixed.{AllFixedAnswer, AllFixedOf};
 
-use crate::two::{
-    TwoAllBounds, TwoAllFixed, TwoBounds, TwoFixedBounds, TwoFixedVerdict, TwoVerdict,
-};
 use delay::{AllBounds, AllFixed};
-use model::FlowSet;
+use model::{Bounds, Fault, FixedBounds, FixedVerdict, FlowSet, Verdict};
 
-pub fn all_bounds(s: FlowSet) -> TwoAllBounds
+#[tactic(auto, using(delay::specs::AllBounds::all_bounds_once))]
+pub fn bounds_of_accepted(s: FlowSet) -> (AllBounds, AllBounds)
+    requires { good (record_fault (used s)).refusal ≡ true }
     ensures { result.0 ≡ result.1 }
 {
-    let a = delay::all_bounds(s);
-    let b = delay::all_bounds(s);
-    TwoAllBounds(a, b)
+    (delay::bounds_of_accepted(s), delay::bounds_of_accepted(s))
 }
 
-pub fn verdict_of(s: FlowSet, all: AllBounds) -> TwoVerdict
-    requires { AllBoundsOf (used s) all }
+#[tactic(auto, using(delay::specs::AllBounds::bounds_answer_once))]
+pub fn all_bounds(s: FlowSet) -> (Result<AllBounds, Fault>, Result<AllBounds, Fault>)
     ensures { result.0 ≡ result.1 }
 {
-    let a = delay::verdict_of(s, all);
-    let b = delay::verdict_of(s, all);
-    TwoVerdict(a, b)
+    (delay::all_bounds(s), delay::all_bounds(s))
 }
 
-pub fn verdict(s: FlowSet) -> TwoVerdict
+pub fn verdict_of_all(s: &FlowSet, all: &AllBounds) -> (Verdict, Verdict)
+    requires { AllBoundsOf (used s.now) all.now }
     ensures { result.0 ≡ result.1 }
 {
-    let a = delay::verdict(s);
-    let b = delay::verdict(s);
-    TwoVerdict(a, b)
+    (all.verdict(s), all.verdict(s))
 }
 
-pub fn bounds_of(s: FlowSet, k: u16, all: AllBounds) -> TwoBounds
-    requires { AllBoundsOf (used s) all }
+pub fn bounds_of_all(s: &FlowSet, k: u16, all: &AllBounds) -> (Bounds, Bounds)
+    requires { AllBoundsOf (used s.now) all.now }
     ensures { result.0 ≡ result.1 }
 {
-    let a = delay::bounds_of(s, k, all);
-    let b = delay::bounds_of(s, k, all);
-    TwoBounds(a, b)
+    (all.bounds(s, k), all.bounds(s, k))
 }
 
-pub fn bounds(s: FlowSet, k: u16) -> TwoBounds
+pub fn verdict_of(s: FlowSet, all: Result<AllBounds, Fault>) -> (Verdict, Verdict)
+    requires { AllBoundsAnswer (used s) all }
     ensures { result.0 ≡ result.1 }
 {
-    let a = delay::bounds(s, k);
-    let b = delay::bounds(s, k);
-    TwoBounds(a, b)
+    (delay::verdict_of(s, all), delay::verdict_of(s, all))
 }
 
-pub fn all_fixed(s: FlowSet) -> TwoAllFixed
+pub fn verdict(s: FlowSet) -> (Verdict, Verdict)
     ensures { result.0 ≡ result.1 }
 {
-    let a = delay::all_fixed(s);
-    let b = delay::all_fixed(s);
-    TwoAllFixed(a, b)
+    (delay::verdict(s), delay::verdict(s))
 }
 
-pub fn fixed_verdict_of(s: FlowSet, all: AllFixed) -> TwoFixedVerdict
-    requires { AllFixedOf (used s) all }
+pub fn bounds_of(s: FlowSet, k: u16, all: Result<AllBounds, Fault>) -> (Bounds, Bounds)
+    requires { AllBoundsAnswer (used s) all }
     ensures { result.0 ≡ result.1 }
 {
-    let a = delay::fixed_verdict_of(s, all);
-    let b = delay::fixed_verdict_of(s, all);
-    TwoFixedVerdict(a, b)
+    (delay::bounds_of(s, k, all), delay::bounds_of(s, k, all))
 }
 
-pub fn fixed_verdict(s: FlowSet) -> TwoFixedVerdict
+pub fn bounds(s: FlowSet, k: u16) -> (Bounds, Bounds)
     ensures { result.0 ≡ result.1 }
 {
-    let a = delay::fixed_verdict(s);
-    let b = delay::fixed_verdict(s);
-    TwoFixedVerdict(a, b)
+    (delay::bounds(s, k), delay::bounds(s, k))
 }
 
-pub fn fixed_bounds_of(s: FlowSet, k: u16, all: AllFixed) -> TwoFixedBounds
-    requires { AllFixedOf (used s) all }
+#[tactic(auto, using(delay::specs::AllFixed::all_fixed_once))]
+pub fn fixed_of_accepted(s: FlowSet) -> (AllFixed, AllFixed)
+    requires { good (record_fault (used s)).refusal ≡ true }
     ensures { result.0 ≡ result.1 }
 {
-    let a = delay::fixed_bounds_of(s, k, all);
-    let b = delay::fixed_bounds_of(s, k, all);
-    TwoFixedBounds(a, b)
+    (delay::fixed_of_accepted(s), delay::fixed_of_accepted(s))
 }
 
-pub fn fixed_bounds(s: FlowSet, k: u16) -> TwoFixedBounds
+#[tactic(auto, using(delay::specs::AllFixed::fixed_answer_once))]
+pub fn all_fixed(s: FlowSet) -> (Result<AllFixed, Fault>, Result<AllFixed, Fault>)
     ensures { result.0 ≡ result.1 }
 {
-    let a = delay::fixed_bounds(s, k);
-    let b = delay::fixed_bounds(s, k);
-    TwoFixedBounds(a, b)
+    (delay::all_fixed(s), delay::all_fixed(s))
+}
+
+pub fn fixed_verdict_of_all(s: &FlowSet, all: &AllFixed) -> (FixedVerdict, FixedVerdict)
+    requires { AllFixedOf (used s.now) all.now }
+    ensures { result.0 ≡ result.1 }
+{
+    (all.verdict(s), all.verdict(s))
+}
+
+pub fn fixed_bounds_of_all(s: &FlowSet, k: u16, all: &AllFixed) -> (FixedBounds, FixedBounds)
+    requires { AllFixedOf (used s.now) all.now }
+    ensures { result.0 ≡ result.1 }
+{
+    (all.bounds(s, k), all.bounds(s, k))
+}
+
+pub fn fixed_verdict_of(s: FlowSet, all: Result<AllFixed, Fault>) -> (FixedVerdict, FixedVerdict)
+    requires { AllFixedAnswer (used s) all }
+    ensures { result.0 ≡ result.1 }
+{
+    (
+        delay::fixed_verdict_of(s, all),
+        delay::fixed_verdict_of(s, all),
+    )
+}
+
+pub fn fixed_verdict(s: FlowSet) -> (FixedVerdict, FixedVerdict)
+    ensures { result.0 ≡ result.1 }
+{
+    (delay::fixed_verdict(s), delay::fixed_verdict(s))
+}
+
+pub fn fixed_bounds_of(
+    s: FlowSet,
+    k: u16,
+    all: Result<AllFixed, Fault>,
+) -> (FixedBounds, FixedBounds)
+    requires { AllFixedAnswer (used s) all }
+    ensures { result.0 ≡ result.1 }
+{
+    (
+        delay::fixed_bounds_of(s, k, all),
+        delay::fixed_bounds_of(s, k, all),
+    )
+}
+
+pub fn fixed_bounds(s: FlowSet, k: u16) -> (FixedBounds, FixedBounds)
+    ensures { result.0 ≡ result.1 }
+{
+    (delay::fixed_bounds(s, k), delay::fixed_bounds(s, k))
 }

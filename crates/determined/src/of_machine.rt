@@ -5,65 +5,49 @@ ghost use Rattle.document.specs.Reader.{record_fault};
 ghost use Rattle.document.specs.Superframe.{flat, rows_to};
 ghost use Rattle.model.specs.Sets.{used};
 
-use crate::two::{TwoRan, TwoStepped, TwoU16};
-use model::{ChannelMap, Fault, FlowSet, Order, Slot, State};
+use model::{ChannelMap, FlowSet, Order, Ran, Slot, State, Stepped};
 
-pub fn step(s: FlowSet, st: State) -> TwoStepped
+pub fn step(s: FlowSet, st: State) -> (Stepped, Stepped)
     ensures { result.0 ≡ result.1 }
 {
-    let a = machine::step(s, st);
-    let b = machine::step(s, st);
-    TwoStepped(a, b)
+    (machine::step(s, st), machine::step(s, st))
 }
 
-pub fn run(s: FlowSet, budget: u32) -> TwoRan
+pub fn run(s: FlowSet, budget: u32) -> (Ran, Ran)
     ensures { result.0 ≡ result.1 }
 {
-    let a = machine::run(s, budget);
-    let b = machine::run(s, budget);
-    TwoRan(a, b)
+    (machine::run(s, budget), machine::run(s, budget))
 }
 
-pub fn fixed_step(s: FlowSet, st: State) -> TwoStepped
+pub fn fixed_step(s: FlowSet, st: State) -> (Stepped, Stepped)
     ensures { result.0 ≡ result.1 }
 {
-    let a = machine::fixed_step(s, st);
-    let b = machine::fixed_step(s, st);
-    TwoStepped(a, b)
+    (machine::fixed_step(s, st), machine::fixed_step(s, st))
 }
 
-pub fn fixed_run(s: FlowSet, budget: u32) -> TwoRan
+pub fn fixed_run(s: FlowSet, budget: u32) -> (Ran, Ran)
     ensures { result.0 ≡ result.1 }
 {
-    let a = machine::fixed_run(s, budget);
-    let b = machine::fixed_run(s, budget);
-    TwoRan(a, b)
+    (machine::fixed_run(s, budget), machine::fixed_run(s, budget))
 }
 
-pub fn step_accepted(by: Order, s: FlowSet, st: State) -> TwoStepped
+pub fn step_accepted(by: Order, s: FlowSet, st: State) -> (Stepped, Stepped)
     requires { good (record_fault (used s)).refusal ≡ true }
     ensures { result.0 ≡ result.1 }
 {
-    let a = machine::step_accepted(by, s, st);
-    let b = machine::step_accepted(by, s, st);
-    TwoStepped(a, b)
+    (
+        machine::step_accepted(by, s, st),
+        machine::step_accepted(by, s, st),
+    )
 }
 
-pub fn step_after(fault: Fault, by: Order, s: FlowSet, st: State) -> TwoStepped
-    requires { fault ≡ record_fault (used s) }
+pub fn radio_channel(map: ChannelMap, t: Slot, offset: u32) -> (u16, u16)
     ensures { result.0 ≡ result.1 }
 {
-    let a = machine::step_after(fault, by, s, st);
-    let b = machine::step_after(fault, by, s, st);
-    TwoStepped(a, b)
-}
-
-pub fn radio_channel(map: ChannelMap, t: Slot, offset: u32) -> TwoU16
-    ensures { result.0 ≡ result.1 }
-{
-    let a = machine::radio_channel(map, t, offset);
-    let b = machine::radio_channel(map, t, offset);
-    TwoU16(a, b)
+    (
+        machine::radio_channel(map, t, offset),
+        machine::radio_channel(map, t, offset),
+    )
 }
 
 pub fn rows_accepted(s: FlowSet, slots: u32, x: &mut [u16], y: &mut [u16])

@@ -1,34 +1,37 @@
 // What C calls, each called twice.
 ghost use Rattle.std.specs.Prelude.{◌≡◌};
 
-use crate::two::{
-    TwoBoundsAnswer, TwoFixedBoundsAnswer, TwoFixedVerdictAnswer, TwoLinesAnswer, TwoRowsAnswer,
-    TwoSlotAnswer, TwoSuperframeAnswer, TwoTableAnswer, TwoU32, TwoVerdictAnswer,
+use model::{
+    Bounds, BoundsAnswer, FixedBounds, FixedBoundsAnswer, FixedVerdict, FixedVerdictAnswer,
+    LinesAnswer, RowsAnswer, SlotAnswer, SuperframeAnswer, TableAnswer, Tabled, Verdict,
+    VerdictAnswer, Written,
 };
-use model::{Bounds, FixedBounds, FixedVerdict, Tabled, Verdict, Written};
 
-pub fn rembasuk_verdict(text: &[u8]) -> TwoVerdictAnswer
+pub fn rembasuk_verdict(text: &[u8]) -> (VerdictAnswer, VerdictAnswer)
     ensures { result.0 ≡ result.1 }
 {
-    let a = planner::rembasuk_verdict(text);
-    let b = planner::rembasuk_verdict(text);
-    TwoVerdictAnswer(a, b)
+    (
+        planner::rembasuk_verdict(text),
+        planner::rembasuk_verdict(text),
+    )
 }
 
-pub fn rembasuk_bounds(text: &[u8], flow: u32) -> TwoBoundsAnswer
+pub fn rembasuk_bounds(text: &[u8], flow: u32) -> (BoundsAnswer, BoundsAnswer)
     ensures { result.0 ≡ result.1 }
 {
-    let a = planner::rembasuk_bounds(text, flow);
-    let b = planner::rembasuk_bounds(text, flow);
-    TwoBoundsAnswer(a, b)
+    (
+        planner::rembasuk_bounds(text, flow),
+        planner::rembasuk_bounds(text, flow),
+    )
 }
 
-pub fn rembasuk_all_bounds(text: &[u8], x: &mut [u32], y: &mut [u32]) -> TwoTableAnswer
+pub fn rembasuk_all_bounds(text: &[u8], x: &mut [u32], y: &mut [u32]) -> (TableAnswer, TableAnswer)
     ensures { (x.old ≡ y.old) → ((result.0 ≡ result.1) × (x.new ≡ y.new)) }
 {
-    let a = planner::rembasuk_all_bounds(text, x);
-    let b = planner::rembasuk_all_bounds(text, y);
-    TwoTableAnswer(a, b)
+    (
+        planner::rembasuk_all_bounds(text, x),
+        planner::rembasuk_all_bounds(text, y),
+    )
 }
 
 pub fn rembasuk_slot(
@@ -37,101 +40,114 @@ pub fn rembasuk_slot(
     u: &mut [u8],
     x: &mut [u8],
     y: &mut [u8],
-) -> TwoSlotAnswer
+) -> (SlotAnswer, SlotAnswer)
     ensures { ((s.old ≡ u.old) × (x.old ≡ y.old))
         → ((result.0 ≡ result.1) × (s.new ≡ u.new) × (x.new ≡ y.new)) }
 {
-    let a = planner::rembasuk_slot(text, s, x);
-    let b = planner::rembasuk_slot(text, u, y);
-    TwoSlotAnswer(a, b)
+    (
+        planner::rembasuk_slot(text, s, x),
+        planner::rembasuk_slot(text, u, y),
+    )
 }
 
-pub fn verdict_numbers(v: Verdict) -> TwoVerdictAnswer
+pub fn verdict_numbers(v: Verdict) -> (VerdictAnswer, VerdictAnswer)
     ensures { result.0 ≡ result.1 }
 {
-    let a = planner::verdict_numbers(v);
-    let b = planner::verdict_numbers(v);
-    TwoVerdictAnswer(a, b)
+    (planner::verdict_numbers(v), planner::verdict_numbers(v))
 }
 
-pub fn bounds_numbers(bounds: Bounds) -> TwoBoundsAnswer
+pub fn bounds_numbers(bounds: Bounds) -> (BoundsAnswer, BoundsAnswer)
     ensures { result.0 ≡ result.1 }
 {
-    let a = planner::bounds_numbers(bounds);
-    let b = planner::bounds_numbers(bounds);
-    TwoBoundsAnswer(a, b)
+    (
+        planner::bounds_numbers(bounds),
+        planner::bounds_numbers(bounds),
+    )
 }
 
-pub fn slot_numbers(written: Written) -> TwoSlotAnswer
+pub fn slot_numbers(written: Written) -> (SlotAnswer, SlotAnswer)
     ensures { result.0 ≡ result.1 }
 {
-    let a = planner::slot_numbers(written);
-    let b = planner::slot_numbers(written);
-    TwoSlotAnswer(a, b)
+    (
+        planner::slot_numbers(written),
+        planner::slot_numbers(written),
+    )
 }
 
-pub fn rembasuk_superframe_size(text: &[u8]) -> TwoSuperframeAnswer
+pub fn rembasuk_superframe_size(text: &[u8]) -> (SuperframeAnswer, SuperframeAnswer)
     ensures { result.0 ≡ result.1 }
 {
-    let a = planner::rembasuk_superframe_size(text);
-    let b = planner::rembasuk_superframe_size(text);
-    TwoSuperframeAnswer(a, b)
+    (
+        planner::rembasuk_superframe_size(text),
+        planner::rembasuk_superframe_size(text),
+    )
 }
 
-pub fn rembasuk_superframe(text: &[u8], x: &mut [u16], y: &mut [u16]) -> TwoSuperframeAnswer
+pub fn rembasuk_superframe(
+    text: &[u8],
+    x: &mut [u16],
+    y: &mut [u16],
+) -> (SuperframeAnswer, SuperframeAnswer)
     ensures { (x.old ≡ y.old) → ((result.0 ≡ result.1) × (x.new ≡ y.new)) }
 {
-    let a = planner::rembasuk_superframe(text, x);
-    let b = planner::rembasuk_superframe(text, y);
-    TwoSuperframeAnswer(a, b)
+    (
+        planner::rembasuk_superframe(text, x),
+        planner::rembasuk_superframe(text, y),
+    )
 }
 
-pub fn rembasuk_table_write(table: &[u16], x: &mut [u8], y: &mut [u8]) -> TwoLinesAnswer
+pub fn rembasuk_table_write(table: &[u16], x: &mut [u8], y: &mut [u8]) -> (LinesAnswer, LinesAnswer)
     ensures { (x.old ≡ y.old) → ((result.0 ≡ result.1) × (x.new ≡ y.new)) }
 {
-    let a = planner::rembasuk_table_write(table, x);
-    let b = planner::rembasuk_table_write(table, y);
-    TwoLinesAnswer(a, b)
+    (
+        planner::rembasuk_table_write(table, x),
+        planner::rembasuk_table_write(table, y),
+    )
 }
 
-pub fn rembasuk_table_read(lines: &[u8], x: &mut [u16], y: &mut [u16]) -> TwoRowsAnswer
+pub fn rembasuk_table_read(lines: &[u8], x: &mut [u16], y: &mut [u16]) -> (RowsAnswer, RowsAnswer)
     ensures { (x.old ≡ y.old) → ((result.0 ≡ result.1) × (x.new ≡ y.new)) }
 {
-    let a = planner::rembasuk_table_read(lines, x);
-    let b = planner::rembasuk_table_read(lines, y);
-    TwoRowsAnswer(a, b)
+    (
+        planner::rembasuk_table_read(lines, x),
+        planner::rembasuk_table_read(lines, y),
+    )
 }
 
-pub fn rembasuk_channel(map: u32, slot: u32, offset: u32) -> TwoU32
+pub fn rembasuk_channel(map: u32, slot: u32, offset: u32) -> (u32, u32)
     ensures { result.0 ≡ result.1 }
 {
-    let a = planner::rembasuk_channel(map, slot, offset);
-    let b = planner::rembasuk_channel(map, slot, offset);
-    TwoU32(a, b)
+    (
+        planner::rembasuk_channel(map, slot, offset),
+        planner::rembasuk_channel(map, slot, offset),
+    )
 }
 
-pub fn superframe_numbers(tabled: Tabled) -> TwoSuperframeAnswer
+pub fn superframe_numbers(tabled: Tabled) -> (SuperframeAnswer, SuperframeAnswer)
     ensures { result.0 ≡ result.1 }
 {
-    let a = planner::superframe_numbers(tabled);
-    let b = planner::superframe_numbers(tabled);
-    TwoSuperframeAnswer(a, b)
+    (
+        planner::superframe_numbers(tabled),
+        planner::superframe_numbers(tabled),
+    )
 }
 
-pub fn rembasuk_fixed_verdict(text: &[u8]) -> TwoFixedVerdictAnswer
+pub fn rembasuk_fixed_verdict(text: &[u8]) -> (FixedVerdictAnswer, FixedVerdictAnswer)
     ensures { result.0 ≡ result.1 }
 {
-    let a = planner::rembasuk_fixed_verdict(text);
-    let b = planner::rembasuk_fixed_verdict(text);
-    TwoFixedVerdictAnswer(a, b)
+    (
+        planner::rembasuk_fixed_verdict(text),
+        planner::rembasuk_fixed_verdict(text),
+    )
 }
 
-pub fn rembasuk_fixed_bounds(text: &[u8], flow: u32) -> TwoFixedBoundsAnswer
+pub fn rembasuk_fixed_bounds(text: &[u8], flow: u32) -> (FixedBoundsAnswer, FixedBoundsAnswer)
     ensures { result.0 ≡ result.1 }
 {
-    let a = planner::rembasuk_fixed_bounds(text, flow);
-    let b = planner::rembasuk_fixed_bounds(text, flow);
-    TwoFixedBoundsAnswer(a, b)
+    (
+        planner::rembasuk_fixed_bounds(text, flow),
+        planner::rembasuk_fixed_bounds(text, flow),
+    )
 }
 
 pub fn rembasuk_fixed_slot(
@@ -140,27 +156,30 @@ pub fn rembasuk_fixed_slot(
     u: &mut [u8],
     x: &mut [u8],
     y: &mut [u8],
-) -> TwoSlotAnswer
+) -> (SlotAnswer, SlotAnswer)
     ensures { ((s.old ≡ u.old) × (x.old ≡ y.old))
         → ((result.0 ≡ result.1) × (s.new ≡ u.new) × (x.new ≡ y.new)) }
 {
-    let a = planner::rembasuk_fixed_slot(text, s, x);
-    let b = planner::rembasuk_fixed_slot(text, u, y);
-    TwoSlotAnswer(a, b)
+    (
+        planner::rembasuk_fixed_slot(text, s, x),
+        planner::rembasuk_fixed_slot(text, u, y),
+    )
 }
 
-pub fn fixed_verdict_numbers(v: FixedVerdict) -> TwoFixedVerdictAnswer
+pub fn fixed_verdict_numbers(v: FixedVerdict) -> (FixedVerdictAnswer, FixedVerdictAnswer)
     ensures { result.0 ≡ result.1 }
 {
-    let a = planner::fixed_verdict_numbers(v);
-    let b = planner::fixed_verdict_numbers(v);
-    TwoFixedVerdictAnswer(a, b)
+    (
+        planner::fixed_verdict_numbers(v),
+        planner::fixed_verdict_numbers(v),
+    )
 }
 
-pub fn fixed_bounds_numbers(bounds: FixedBounds) -> TwoFixedBoundsAnswer
+pub fn fixed_bounds_numbers(bounds: FixedBounds) -> (FixedBoundsAnswer, FixedBoundsAnswer)
     ensures { result.0 ≡ result.1 }
 {
-    let a = planner::fixed_bounds_numbers(bounds);
-    let b = planner::fixed_bounds_numbers(bounds);
-    TwoFixedBoundsAnswer(a, b)
+    (
+        planner::fixed_bounds_numbers(bounds),
+        planner::fixed_bounds_numbers(bounds),
+    )
 }

@@ -1,128 +1,114 @@
 // What the comparison calls, each called twice.
 ghost use Rattle.std.specs.Prelude.{◌≡◌};
 
-use crate::two::{
-    TwoBoundsAnswer, TwoFixedBoundsAnswer, TwoFixedVerdictAnswer, TwoProbeFault, TwoProbeRan,
-    TwoProbeReading, TwoProbeStepped, TwoSlotAnswer, TwoSuperframeAnswer, TwoVerdictAnswer,
+use model::{
+    BoundsAnswer, FixedBoundsAnswer, FixedVerdictAnswer, FlowSet, SlotAnswer, State,
+    SuperframeAnswer, VerdictAnswer,
 };
-use model::{FlowSet, State};
+use probe::{ProbeFault, ProbeRan, ProbeReading, ProbeStepped};
 
-pub fn probe_verdict(s: FlowSet) -> TwoVerdictAnswer
+pub fn probe_verdict(s: FlowSet) -> (VerdictAnswer, VerdictAnswer)
     ensures { result.0 ≡ result.1 }
 {
-    let a = probe::probe_verdict(s);
-    let b = probe::probe_verdict(s);
-    TwoVerdictAnswer(a, b)
+    (probe::probe_verdict(s), probe::probe_verdict(s))
 }
 
-pub fn probe_bounds(s: FlowSet, flow: u16) -> TwoBoundsAnswer
+pub fn probe_bounds(s: FlowSet, flow: u16) -> (BoundsAnswer, BoundsAnswer)
     ensures { result.0 ≡ result.1 }
 {
-    let a = probe::probe_bounds(s, flow);
-    let b = probe::probe_bounds(s, flow);
-    TwoBoundsAnswer(a, b)
+    (probe::probe_bounds(s, flow), probe::probe_bounds(s, flow))
 }
 
-pub fn probe_step(s: FlowSet, st: State) -> TwoProbeStepped
+pub fn probe_step(s: FlowSet, st: State) -> (ProbeStepped, ProbeStepped)
     ensures { result.0 ≡ result.1 }
 {
-    let a = probe::probe_step(s, st);
-    let b = probe::probe_step(s, st);
-    TwoProbeStepped(a, b)
+    (probe::probe_step(s, st), probe::probe_step(s, st))
 }
 
-pub fn probe_run(s: FlowSet, budget: u32) -> TwoProbeRan
+pub fn probe_run(s: FlowSet, budget: u32) -> (ProbeRan, ProbeRan)
     ensures { result.0 ≡ result.1 }
 {
-    let a = probe::probe_run(s, budget);
-    let b = probe::probe_run(s, budget);
-    TwoProbeRan(a, b)
+    (probe::probe_run(s, budget), probe::probe_run(s, budget))
 }
 
-pub fn probe_record_fault(s: FlowSet) -> TwoProbeFault
+pub fn probe_record_fault(s: FlowSet) -> (ProbeFault, ProbeFault)
     ensures { result.0 ≡ result.1 }
 {
-    let a = probe::probe_record_fault(s);
-    let b = probe::probe_record_fault(s);
-    TwoProbeFault(a, b)
+    (probe::probe_record_fault(s), probe::probe_record_fault(s))
 }
 
-pub fn probe_read(text: &[u8]) -> TwoProbeReading
+pub fn probe_read(text: &[u8]) -> (ProbeReading, ProbeReading)
     ensures { result.0 ≡ result.1 }
 {
-    let a = probe::probe_read(text);
-    let b = probe::probe_read(text);
-    TwoProbeReading(a, b)
+    (probe::probe_read(text), probe::probe_read(text))
 }
 
-pub fn probe_write(s: FlowSet, x: &mut [u8], y: &mut [u8]) -> TwoSlotAnswer
+pub fn probe_write(s: FlowSet, x: &mut [u8], y: &mut [u8]) -> (SlotAnswer, SlotAnswer)
     ensures { (x.old ≡ y.old) → ((result.0 ≡ result.1) × (x.new ≡ y.new)) }
 {
-    let a = probe::probe_write(s, x);
-    let b = probe::probe_write(s, y);
-    TwoSlotAnswer(a, b)
+    (probe::probe_write(s, x), probe::probe_write(s, y))
 }
 
-pub fn probe_plan(input: &[u8], x: &mut [u8], y: &mut [u8]) -> TwoSlotAnswer
+pub fn probe_plan(input: &[u8], x: &mut [u8], y: &mut [u8]) -> (SlotAnswer, SlotAnswer)
     ensures { (x.old ≡ y.old) → ((result.0 ≡ result.1) × (x.new ≡ y.new)) }
 {
-    let a = probe::probe_plan(input, x);
-    let b = probe::probe_plan(input, y);
-    TwoSlotAnswer(a, b)
+    (probe::probe_plan(input, x), probe::probe_plan(input, y))
 }
 
-pub fn probe_superframe_size(s: FlowSet) -> TwoSuperframeAnswer
+pub fn probe_superframe_size(s: FlowSet) -> (SuperframeAnswer, SuperframeAnswer)
     ensures { result.0 ≡ result.1 }
 {
-    let a = probe::probe_superframe_size(s);
-    let b = probe::probe_superframe_size(s);
-    TwoSuperframeAnswer(a, b)
+    (
+        probe::probe_superframe_size(s),
+        probe::probe_superframe_size(s),
+    )
 }
 
-pub fn probe_superframe(s: FlowSet, x: &mut [u16], y: &mut [u16]) -> TwoSuperframeAnswer
+pub fn probe_superframe(
+    s: FlowSet,
+    x: &mut [u16],
+    y: &mut [u16],
+) -> (SuperframeAnswer, SuperframeAnswer)
     ensures { (x.old ≡ y.old) → ((result.0 ≡ result.1) × (x.new ≡ y.new)) }
 {
-    let a = probe::probe_superframe(s, x);
-    let b = probe::probe_superframe(s, y);
-    TwoSuperframeAnswer(a, b)
+    (probe::probe_superframe(s, x), probe::probe_superframe(s, y))
 }
 
-pub fn probe_fixed_verdict(s: FlowSet) -> TwoFixedVerdictAnswer
+pub fn probe_fixed_verdict(s: FlowSet) -> (FixedVerdictAnswer, FixedVerdictAnswer)
     ensures { result.0 ≡ result.1 }
 {
-    let a = probe::probe_fixed_verdict(s);
-    let b = probe::probe_fixed_verdict(s);
-    TwoFixedVerdictAnswer(a, b)
+    (probe::probe_fixed_verdict(s), probe::probe_fixed_verdict(s))
 }
 
-pub fn probe_fixed_bounds(s: FlowSet, flow: u16) -> TwoFixedBoundsAnswer
+pub fn probe_fixed_bounds(s: FlowSet, flow: u16) -> (FixedBoundsAnswer, FixedBoundsAnswer)
     ensures { result.0 ≡ result.1 }
 {
-    let a = probe::probe_fixed_bounds(s, flow);
-    let b = probe::probe_fixed_bounds(s, flow);
-    TwoFixedBoundsAnswer(a, b)
+    (
+        probe::probe_fixed_bounds(s, flow),
+        probe::probe_fixed_bounds(s, flow),
+    )
 }
 
-pub fn probe_fixed_step(s: FlowSet, st: State) -> TwoProbeStepped
+pub fn probe_fixed_step(s: FlowSet, st: State) -> (ProbeStepped, ProbeStepped)
     ensures { result.0 ≡ result.1 }
 {
-    let a = probe::probe_fixed_step(s, st);
-    let b = probe::probe_fixed_step(s, st);
-    TwoProbeStepped(a, b)
+    (
+        probe::probe_fixed_step(s, st),
+        probe::probe_fixed_step(s, st),
+    )
 }
 
-pub fn probe_fixed_run(s: FlowSet, budget: u32) -> TwoProbeRan
+pub fn probe_fixed_run(s: FlowSet, budget: u32) -> (ProbeRan, ProbeRan)
     ensures { result.0 ≡ result.1 }
 {
-    let a = probe::probe_fixed_run(s, budget);
-    let b = probe::probe_fixed_run(s, budget);
-    TwoProbeRan(a, b)
+    (
+        probe::probe_fixed_run(s, budget),
+        probe::probe_fixed_run(s, budget),
+    )
 }
 
-pub fn probe_fixed(input: &[u8], x: &mut [u8], y: &mut [u8]) -> TwoSlotAnswer
+pub fn probe_fixed(input: &[u8], x: &mut [u8], y: &mut [u8]) -> (SlotAnswer, SlotAnswer)
     ensures { (x.old ≡ y.old) → ((result.0 ≡ result.1) × (x.new ≡ y.new)) }
 {
-    let a = probe::probe_fixed(input, x);
-    let b = probe::probe_fixed(input, y);
-    TwoSlotAnswer(a, b)
+    (probe::probe_fixed(input, x), probe::probe_fixed(input, y))
 }

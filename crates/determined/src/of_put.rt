@@ -1,55 +1,54 @@
 // What the writer puts into lent memory, a byte, a number, a line, each called twice.
 ghost use Rattle.std.specs.Prelude.{◌≡◌};
 
-use crate::two::TwoUsize;
 use model::{ChannelMap, Send};
 
-pub fn put_byte(x: &mut [u8], y: &mut [u8], at: usize, b: u8) -> TwoUsize
+pub fn put_byte(x: &mut [u8], y: &mut [u8], at: usize, b: u8) -> (usize, usize)
     ensures { (x.old ≡ y.old) → ((result.0 ≡ result.1) × (x.new ≡ y.new)) }
 {
-    let a = text::put_byte(x, at, b);
-    let b = text::put_byte(y, at, b);
-    TwoUsize(a, b)
+    (text::put_byte(x, at, b), text::put_byte(y, at, b))
 }
 
-pub fn put_number(x: &mut [u8], y: &mut [u8], at: usize, v: u32) -> TwoUsize
+pub fn put_number(x: &mut [u8], y: &mut [u8], at: usize, v: u32) -> (usize, usize)
     ensures { (x.old ≡ y.old) → ((result.0 ≡ result.1) × (x.new ≡ y.new)) }
 {
-    let a = text::put_number(x, at, v);
-    let b = text::put_number(y, at, v);
-    TwoUsize(a, b)
+    (text::put_number(x, at, v), text::put_number(y, at, v))
 }
 
-pub fn put_word(x: &mut [u8], y: &mut [u8], at: usize, word: &[u8]) -> TwoUsize
+pub fn put_word(x: &mut [u8], y: &mut [u8], at: usize, word: &[u8]) -> (usize, usize)
     ensures { (x.old ≡ y.old) → ((result.0 ≡ result.1) × (x.new ≡ y.new)) }
 {
-    let a = text::put_word(x, at, word);
-    let b = text::put_word(y, at, word);
-    TwoUsize(a, b)
+    (text::put_word(x, at, word), text::put_word(y, at, word))
 }
 
-pub fn put_field(x: &mut [u8], y: &mut [u8], at: usize, v: u32) -> TwoUsize
+pub fn put_field(x: &mut [u8], y: &mut [u8], at: usize, v: u32) -> (usize, usize)
     ensures { (x.old ≡ y.old) → ((result.0 ≡ result.1) × (x.new ≡ y.new)) }
 {
-    let a = text::put_field(x, at, v);
-    let b = text::put_field(y, at, v);
-    TwoUsize(a, b)
+    (text::put_field(x, at, v), text::put_field(y, at, v))
 }
 
-pub fn put_fields(x: &mut [u8], y: &mut [u8], at: usize, numbers: &[u32]) -> TwoUsize
+pub fn put_fields(x: &mut [u8], y: &mut [u8], at: usize, numbers: &[u32]) -> (usize, usize)
     ensures { (x.old ≡ y.old) → ((result.0 ≡ result.1) × (x.new ≡ y.new)) }
 {
-    let a = text::put_fields(x, at, numbers);
-    let b = text::put_fields(y, at, numbers);
-    TwoUsize(a, b)
+    (
+        text::put_fields(x, at, numbers),
+        text::put_fields(y, at, numbers),
+    )
 }
 
-pub fn put_line(x: &mut [u8], y: &mut [u8], at: usize, word: &[u8], numbers: &[u32]) -> TwoUsize
+pub fn put_line(
+    x: &mut [u8],
+    y: &mut [u8],
+    at: usize,
+    word: &[u8],
+    numbers: &[u32],
+) -> (usize, usize)
     ensures { (x.old ≡ y.old) → ((result.0 ≡ result.1) × (x.new ≡ y.new)) }
 {
-    let a = text::put_line(x, at, word, numbers);
-    let b = text::put_line(y, at, word, numbers);
-    TwoUsize(a, b)
+    (
+        text::put_line(x, at, word, numbers),
+        text::put_line(y, at, word, numbers),
+    )
 }
 
 pub fn put_refused(
@@ -59,12 +58,13 @@ pub fn put_refused(
     refusal: u32,
     line: u32,
     field: u32,
-) -> TwoUsize
+) -> (usize, usize)
     ensures { (x.old ≡ y.old) → ((result.0 ≡ result.1) × (x.new ≡ y.new)) }
 {
-    let a = text::put_refused(x, at, refusal, line, field);
-    let b = text::put_refused(y, at, refusal, line, field);
-    TwoUsize(a, b)
+    (
+        text::put_refused(x, at, refusal, line, field),
+        text::put_refused(y, at, refusal, line, field),
+    )
 }
 
 pub fn put_sends(
@@ -73,12 +73,13 @@ pub fn put_sends(
     at: usize,
     sent: [Send; ChannelMap::MOST],
     n: u16,
-) -> TwoUsize
+) -> (usize, usize)
     ensures { (x.old ≡ y.old) → ((result.0 ≡ result.1) × (x.new ≡ y.new)) }
 {
-    let a = text::put_sends(x, at, sent, n);
-    let b = text::put_sends(y, at, sent, n);
-    TwoUsize(a, b)
+    (
+        text::put_sends(x, at, sent, n),
+        text::put_sends(y, at, sent, n),
+    )
 }
 
 pub fn put_row(
@@ -89,10 +90,11 @@ pub fn put_row(
     flow: u32,
     number: u32,
     offset: u32,
-) -> TwoUsize
+) -> (usize, usize)
     ensures { (x.old ≡ y.old) → ((result.0 ≡ result.1) × (x.new ≡ y.new)) }
 {
-    let a = text::put_row(x, at, slot, flow, number, offset);
-    let b = text::put_row(y, at, slot, flow, number, offset);
-    TwoUsize(a, b)
+    (
+        text::put_row(x, at, slot, flow, number, offset),
+        text::put_row(y, at, slot, flow, number, offset),
+    )
 }

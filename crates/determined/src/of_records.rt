@@ -1,142 +1,105 @@
 // The methods of the records, and the rules of a line and of a record, each called twice.
 ghost use Rattle.std.specs.Prelude.{◌≡◌};
 
-use crate::two::{
-    TwoBool, TwoBounds, TwoChannelMap, TwoFault, TwoFixedBounds, TwoFixedVerdict, TwoFlow,
-    TwoFlowSet, TwoLimits, TwoRefusal, TwoSlot, TwoSpan, TwoState, TwoTabled, TwoU16, TwoU32,
-    TwoUsize, TwoVerdict, TwoWritten,
-};
 use model::{
-    Bounds, ChannelMap, Fault, FixedBounds, FixedVerdict, Flow, FlowSet, Limits, Refusal, Slot,
-    Span, State, Tabled, Verdict, Written,
+    Bounds, ChannelMap, Fault, FixedBounds, FixedVerdict, Flow, FlowSet, Limits, Reading,
+    Refusable, Refusal, Slot, Span, State, Tabled, Verdict, Written,
 };
 
-pub fn slot_after(t: Slot, n: Span) -> TwoSlot
+pub fn slot_after(t: Slot, n: Span) -> (Slot, Slot)
     ensures { result.0 ≡ result.1 }
 {
-    let a = t.after(n);
-    let b = t.after(n);
-    TwoSlot(a, b)
+    (t.after(n), t.after(n))
 }
 
-pub fn slot_back(t: Slot, n: Span) -> TwoSlot
+pub fn slot_back(t: Slot, n: Span) -> (Slot, Slot)
     ensures { result.0 ≡ result.1 }
 {
-    let a = t.back(n);
-    let b = t.back(n);
-    TwoSlot(a, b)
+    (t.back(n), t.back(n))
 }
 
-pub fn slot_release(t: Slot, first: Slot, period: Span) -> TwoSlot
+pub fn slot_release(t: Slot, first: Slot, period: Span) -> (Slot, Slot)
     ensures { result.0 ≡ result.1 }
 {
-    let a = t.release(first, period);
-    let b = t.release(first, period);
-    TwoSlot(a, b)
+    (t.release(first, period), t.release(first, period))
 }
 
-pub fn slot_since(t: Slot, earlier: Slot) -> TwoSpan
+pub fn slot_since(t: Slot, earlier: Slot) -> (Span, Span)
     ensures { result.0 ≡ result.1 }
 {
-    let a = t.since(earlier);
-    let b = t.since(earlier);
-    TwoSpan(a, b)
+    (t.since(earlier), t.since(earlier))
 }
 
-pub fn span_keeps(d: Span, bound: u32) -> TwoBool
+pub fn span_keeps(d: Span, bound: u32) -> (bool, bool)
     ensures { result.0 ≡ result.1 }
 {
-    let a = d.keeps(bound);
-    let b = d.keeps(bound);
-    TwoBool(a, b)
+    (d.keeps(bound), d.keeps(bound))
 }
 
-pub fn map_new(bits: u16) -> TwoChannelMap
+pub fn map_new(bits: u16) -> (ChannelMap, ChannelMap)
     ensures { result.0 ≡ result.1 }
 {
-    let a = ChannelMap::new(bits);
-    let b = ChannelMap::new(bits);
-    TwoChannelMap(a, b)
+    (ChannelMap::new(bits), ChannelMap::new(bits))
 }
 
-pub fn map_ways(map: ChannelMap) -> TwoU32
+pub fn map_ways(map: ChannelMap) -> (u32, u32)
     ensures { result.0 ≡ result.1 }
 {
-    let a = map.ways();
-    let b = map.ways();
-    TwoU32(a, b)
+    (map.ways(), map.ways())
 }
 
-pub fn flow_blank() -> TwoFlow
+pub fn flow_blank() -> (Flow, Flow)
     ensures { result.0 ≡ result.1 }
 {
-    let a = Flow::blank();
-    let b = Flow::blank();
-    TwoFlow(a, b)
+    (Flow::blank(), Flow::blank())
 }
 
-pub fn flow_links(f: Flow) -> TwoU32
+pub fn flow_links(f: Flow) -> (u32, u32)
     ensures { result.0 ≡ result.1 }
 {
-    let a = f.links();
-    let b = f.links();
-    TwoU32(a, b)
+    (f.links(), f.links())
 }
 
-pub fn flow_work(f: Flow) -> TwoU32
+pub fn flow_work(f: Flow) -> (u32, u32)
     ensures { result.0 ≡ result.1 }
 {
-    let a = f.work();
-    let b = f.work();
-    TwoU32(a, b)
+    (f.work(), f.work())
 }
 
-pub fn flow_first_release(f: Flow) -> TwoSlot
+pub fn flow_first_release(f: Flow) -> (Slot, Slot)
     ensures { result.0 ≡ result.1 }
 {
-    let a = f.first_release();
-    let b = f.first_release();
-    TwoSlot(a, b)
+    (f.first_release(), f.first_release())
 }
 
-pub fn set_blank() -> TwoFlowSet
+pub fn set_blank() -> (FlowSet, FlowSet)
     ensures { result.0 ≡ result.1 }
 {
-    let a = FlowSet::blank();
-    let b = FlowSet::blank();
-    TwoFlowSet(a, b)
+    (FlowSet::blank(), FlowSet::blank())
 }
 
-pub fn state_fresh() -> TwoState
+pub fn state_fresh() -> (State, State)
     ensures { result.0 ≡ result.1 }
 {
-    let a = State::fresh();
-    let b = State::fresh();
-    TwoState(a, b)
+    (State::fresh(), State::fresh())
 }
 
-pub fn limits_all() -> TwoLimits
+pub fn limits_all() -> (Limits, Limits)
     ensures { result.0 ≡ result.1 }
 {
-    let a = Limits::all();
-    let b = Limits::all();
-    TwoLimits(a, b)
+    (Limits::all(), Limits::all())
 }
 
-pub fn refusal_code(refusal: Refusal) -> TwoU16
+pub fn refusal_code(refusal: Refusal) -> (u16, u16)
     ensures { result.0 ≡ result.1 }
 {
-    let a = refusal.code();
-    let b = refusal.code();
-    TwoU16(a, b)
+    (refusal.code(), refusal.code())
 }
 
-pub fn map_fault(bits: u16) -> TwoRefusal
+pub fn map_fault(bits: u16) -> (Result<(), Refusal>, Result<(), Refusal>)
     ensures { result.0 ≡ result.1 }
 {
-    let a = rules::map_fault(bits);
-    let b = rules::map_fault(bits);
-    TwoRefusal(a, b)
+    (rules::map_fault(bits), rules::map_fault(bits))
 }
 
 pub fn flow_fault(
@@ -146,122 +109,113 @@ pub fn flow_fault(
     tries: u16,
     nodes: usize,
     route: [u16; Flow::MOST_NODES],
-) -> TwoRefusal
+) -> (Result<(), Refusal>, Result<(), Refusal>)
     ensures { result.0 ≡ result.1 }
 {
-    let a = rules::flow_fault(k, period, deadline, tries, nodes, route);
-    let b = rules::flow_fault(k, period, deadline, tries, nodes, route);
-    TwoRefusal(a, b)
+    (
+        rules::flow_fault(k, period, deadline, tries, nodes, route),
+        rules::flow_fault(k, period, deadline, tries, nodes, route),
+    )
 }
 
-pub fn repeat_at(route: [u16; Flow::MOST_NODES], n: usize) -> TwoUsize
+pub fn repeat_at(route: [u16; Flow::MOST_NODES], n: usize) -> (usize, usize)
     ensures { result.0 ≡ result.1 }
 {
-    let a = rules::repeat_at(route, n);
-    let b = rules::repeat_at(route, n);
-    TwoUsize(a, b)
+    (rules::repeat_at(route, n), rules::repeat_at(route, n))
 }
 
-pub fn record_fault(s: FlowSet) -> TwoFault
+pub fn record_fault(s: FlowSet) -> (Result<(), Fault>, Result<(), Fault>)
     ensures { result.0 ≡ result.1 }
 {
-    let a = rules::record_fault(s);
-    let b = rules::record_fault(s);
-    TwoFault(a, b)
+    (rules::record_fault(s), rules::record_fault(s))
 }
 
-pub fn fault_none() -> TwoFault
+pub fn fault_none() -> (Fault, Fault)
     ensures { result.0 ≡ result.1 }
 {
-    let a = Fault::none();
-    let b = Fault::none();
-    TwoFault(a, b)
+    (Fault::none(), Fault::none())
 }
 
-pub fn fault_of(refusal: Refusal) -> TwoFault
+pub fn fault_of(refusal: Refusal) -> (Fault, Fault)
     ensures { result.0 ≡ result.1 }
 {
-    let a = Fault::of(refusal);
-    let b = Fault::of(refusal);
-    TwoFault(a, b)
+    (Fault::of(refusal), Fault::of(refusal))
 }
 
-pub fn fault_refuses(fault: Fault) -> TwoBool
+pub fn fault_refuses(fault: Fault) -> (bool, bool)
     ensures { result.0 ≡ result.1 }
 {
-    let a = fault.refuses();
-    let b = fault.refuses();
-    TwoBool(a, b)
+    (fault.refuses(), fault.refuses())
 }
 
-pub fn verdict_refused(fault: Fault) -> TwoVerdict
+pub fn fault_check(fault: Fault) -> (Result<(), Fault>, Result<(), Fault>)
     ensures { result.0 ≡ result.1 }
 {
-    let a = Verdict::refused(fault);
-    let b = Verdict::refused(fault);
-    TwoVerdict(a, b)
+    (fault.check(), fault.check())
 }
 
-pub fn bounds_refused(fault: Fault) -> TwoBounds
+// Of a function that answers one thing for the set that was read.
+pub fn reading_answer<A: Refusable, F: FnOnce(FlowSet) -> A + Copy>(
+    reading: Reading,
+    of: F,
+) -> (A, A)
+    requires callable { F.pre of reading.set }
+    requires one { (a b : A) → F.post of reading.set a → F.post of reading.set b → a ≡ b }
     ensures { result.0 ≡ result.1 }
 {
-    let a = Bounds::refused(fault);
-    let b = Bounds::refused(fault);
-    TwoBounds(a, b)
+    (reading.answer(of), reading.answer(of))
 }
 
-pub fn fixed_verdict_refused(fault: Fault) -> TwoFixedVerdict
+pub fn verdict_refused(fault: Fault) -> (Verdict, Verdict)
     ensures { result.0 ≡ result.1 }
 {
-    let a = FixedVerdict::refused(fault);
-    let b = FixedVerdict::refused(fault);
-    TwoFixedVerdict(a, b)
+    (Verdict::refused(fault), Verdict::refused(fault))
 }
 
-pub fn fixed_bounds_refused(fault: Fault) -> TwoFixedBounds
+pub fn bounds_refused(fault: Fault) -> (Bounds, Bounds)
     ensures { result.0 ≡ result.1 }
 {
-    let a = FixedBounds::refused(fault);
-    let b = FixedBounds::refused(fault);
-    TwoFixedBounds(a, b)
+    (Bounds::refused(fault), Bounds::refused(fault))
 }
 
-pub fn written_refused(fault: Fault) -> TwoWritten
+pub fn fixed_verdict_refused(fault: Fault) -> (FixedVerdict, FixedVerdict)
     ensures { result.0 ≡ result.1 }
 {
-    let a = Written::refused(fault);
-    let b = Written::refused(fault);
-    TwoWritten(a, b)
+    (FixedVerdict::refused(fault), FixedVerdict::refused(fault))
 }
 
-pub fn span_slots(d: Span) -> TwoU16
+pub fn fixed_bounds_refused(fault: Fault) -> (FixedBounds, FixedBounds)
     ensures { result.0 ≡ result.1 }
 {
-    let a = d.slots();
-    let b = d.slots();
-    TwoU16(a, b)
+    (FixedBounds::refused(fault), FixedBounds::refused(fault))
 }
 
-pub fn bit(test: bool) -> TwoU32
+pub fn written_refused(fault: Fault) -> (Written, Written)
     ensures { result.0 ≡ result.1 }
 {
-    let a = model::bit(test);
-    let b = model::bit(test);
-    TwoU32(a, b)
+    (Written::refused(fault), Written::refused(fault))
 }
 
-pub fn tabled_refused(fault: Fault) -> TwoTabled
+pub fn span_slots(d: Span) -> (u16, u16)
     ensures { result.0 ≡ result.1 }
 {
-    let a = Tabled::refused(fault);
-    let b = Tabled::refused(fault);
-    TwoTabled(a, b)
+    (d.slots(), d.slots())
 }
 
-pub fn fault_or_else(fault: Fault, later: Fault) -> TwoFault
+pub fn bit(test: bool) -> (u32, u32)
     ensures { result.0 ≡ result.1 }
 {
-    let a = fault.or_else(later);
-    let b = fault.or_else(later);
-    TwoFault(a, b)
+    (model::bit(test), model::bit(test))
+}
+
+pub fn tabled_refused(fault: Fault) -> (Tabled, Tabled)
+    ensures { result.0 ≡ result.1 }
+{
+    (Tabled::refused(fault), Tabled::refused(fault))
+}
+
+pub fn fault_or_else(fault: Fault, later: Fault) -> (Fault, Fault)
+    ensures { result.0 ≡ result.1 }
+{
+    (fault.or_else(later), fault.or_else(later))
 }

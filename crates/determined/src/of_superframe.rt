@@ -1,29 +1,38 @@
 // The superframe of a record, each function called twice.
 ghost use Rattle.std.specs.Prelude.{◌≡◌};
 
-use crate::two::{TwoPart, TwoTabled};
-use model::{FlowSet, State};
+use model::{FlowSet, State, Tabled};
+use superframe_table::Part;
 
-pub fn superframe_size(s: FlowSet) -> TwoTabled
+pub fn superframe_size(s: FlowSet) -> (Tabled, Tabled)
     ensures { result.0 ≡ result.1 }
 {
-    let a = superframe_table::superframe_size(s);
-    let b = superframe_table::superframe_size(s);
-    TwoTabled(a, b)
+    (
+        superframe_table::superframe_size(s),
+        superframe_table::superframe_size(s),
+    )
 }
 
-pub fn superframe(s: FlowSet, x: &mut [u16], y: &mut [u16]) -> TwoTabled
+pub fn superframe(s: FlowSet, x: &mut [u16], y: &mut [u16]) -> (Tabled, Tabled)
     ensures { (x.old ≡ y.old) → ((result.0 ≡ result.1) × (x.new ≡ y.new)) }
 {
-    let a = superframe_table::superframe(s, x);
-    let b = superframe_table::superframe(s, y);
-    TwoTabled(a, b)
+    (
+        superframe_table::superframe(s, x),
+        superframe_table::superframe(s, y),
+    )
 }
 
-pub fn superframe_part(s: FlowSet, st: State, hyper: u32, x: &mut [u8], y: &mut [u8]) -> TwoPart
+pub fn superframe_part(
+    s: FlowSet,
+    st: State,
+    hyper: u32,
+    x: &mut [u8],
+    y: &mut [u8],
+) -> (Part, Part)
     ensures { (x.old ≡ y.old) → ((result.0 ≡ result.1) × (x.new ≡ y.new)) }
 {
-    let a = superframe_table::superframe_part(s, st, hyper, x);
-    let b = superframe_table::superframe_part(s, st, hyper, y);
-    TwoPart(a, b)
+    (
+        superframe_table::superframe_part(s, st, hyper, x),
+        superframe_table::superframe_part(s, st, hyper, y),
+    )
 }

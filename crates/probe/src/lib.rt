@@ -18,6 +18,8 @@ use model::{
     FlowSet, Ran, Reading, Send, SlotAnswer, State, Stepped, SuperframeAnswer, VerdictAnswer,
 };
 
+// Kept: records with a fault beside their values, arrays with a count, and each function under its own name, since C reads and calls them.
+
 #[repr(C)]
 #[derive(Clone, Copy)]
 pub struct ProbeFault {
@@ -56,32 +58,35 @@ pub struct ProbeRan {
 }
 
 // A fault with document 01's number.
-fn fault_numbers(fault: Fault) -> ProbeFault
-    ensures { result ≡ fault_numbers fault }
-{
-    let refusal = fault.refusal;
-    ProbeFault {
-        refusal: refusal.code() as u32,
-        line: fault.line,
-        field: fault.field,
+impl From<Fault> for ProbeFault {
+    ghost from_gives = { λ fault given. given ≡ fault_numbers fault };
+
+    fn from(fault: Fault) -> ProbeFault {
+        ProbeFault {
+            refusal: u32::from(fault.refusal.code()),
+            line: fault.line,
+            field: fault.field,
+        }
     }
 }
 
 // The record check.
+#[tactic(auto, using(laws::specs::Accepted::accepted_none))]
 pub fn probe_record_fault(s: FlowSet) -> ProbeFault
     ensures { result ≡ fault_numbers (record_fault (used s)) }
 {
-    fault_numbers(rules::record_fault(s))
+    rules::record_fault(s).err().unwrap_or(Fault::none()).into()
 }
 
 // A reading with its fault in numbers.
-fn reading_numbers(reading: Reading) -> ProbeReading
-    ensures { result ≡ reading_numbers reading }
-{
-    let set = reading.set;
-    ProbeReading {
-        fault: fault_numbers(reading.fault),
-        set,
+impl From<Reading> for ProbeReading {
+    ghost from_gives = { λ reading given. given ≡ reading_numbers reading };
+
+    fn from(reading: Reading) -> ProbeReading {
+        ProbeReading {
+            fault: reading.fault.into(),
+            set: reading.set,
+        }
     }
 }
 
@@ -89,7 +94,7 @@ fn reading_numbers(reading: Reading) -> ProbeReading
 pub fn probe_read(text: &[u8]) -> ProbeReading
     ensures { result ≡ reading_numbers (read_text text.now) }
 {
-    reading_numbers(text::read(text))
+    text::read(text).into()
 }
 
 // The writer.
@@ -123,22 +128,30 @@ pub fn probe_bounds(s: FlowSet, flow: u16) -> BoundsAnswer
 }
 
 // A step's answer with its fault in numbers.
-fn stepped_numbers(stepped: Stepped) -> ProbeStepped
-    ensures { result ≡ stepped_numbers stepped }
-{
-    let next = stepped.next;
-    let sent = stepped.sent;
-    let delivered = stepped.delivered;
-    let dropped = stepped.dropped;
-    ProbeStepped {
-        fault: fault_numbers(stepped.fault),
-        next,
-        sends: stepped.sends,
-        sent,
-        deliveries: stepped.deliveries,
-        delivered,
-        drops: stepped.drops,
-        dropped,
+impl From<Stepped> for ProbeStepped {
+    ghost from_gives = { λ stepped given. given ≡ stepped_numbers stepped };
+
+    fn from(stepped: Stepped) -> ProbeStepped {
+        let Stepped {
+            fault,
+            next,
+            sends,
+            sent,
+            deliveries,
+            delivered,
+            drops,
+            dropped,
+        } = stepped;
+        ProbeStepped {
+            fault: fault.into(),
+            next,
+            sends,
+            sent,
+            deliveries,
+            delivered,
+            drops,
+            dropped,
+        }
     }
 }
 
@@ -146,19 +159,20 @@ fn stepped_numbers(stepped: Stepped) -> ProbeStepped
 pub fn probe_step(s: FlowSet, st: State) -> ProbeStepped
     ensures { result ≡ stepped_numbers (step_of (used s) st) }
 {
-    stepped_numbers(machine::step(s, st))
+    machine::step(s, st).into()
 }
 
 // A run's answer with its fault in numbers.
-fn ran_numbers(ran: Ran) -> ProbeRan
-    ensures { result ≡ ran_numbers ran }
-{
-    let last = ran.last;
-    ProbeRan {
-        fault: fault_numbers(ran.fault),
-        last,
-        delivered: ran.delivered,
-        dropped: ran.dropped,
+impl From<Ran> for ProbeRan {
+    ghost from_gives = { λ ran given. given ≡ ran_numbers ran };
+
+    fn from(ran: Ran) -> ProbeRan {
+        ProbeRan {
+            fault: ran.fault.into(),
+            last: ran.last,
+            delivered: ran.delivered,
+            dropped: ran.dropped,
+        }
     }
 }
 
@@ -166,7 +180,7 @@ fn ran_numbers(ran: Ran) -> ProbeRan
 pub fn probe_run(s: FlowSet, budget: u32) -> ProbeRan
     ensures { result ≡ ran_numbers (run_of (used s) budget) }
 {
-    ran_numbers(machine::run(s, budget))
+    machine::run(s, budget).into()
 }
 
 // How long a superframe is.
@@ -202,14 +216,14 @@ pub fn probe_fixed_bounds(s: FlowSet, flow: u16) -> FixedBoundsAnswer
 pub fn probe_fixed_step(s: FlowSet, st: State) -> ProbeStepped
     ensures { result ≡ stepped_numbers (fixed_step (used s) st) }
 {
-    stepped_numbers(machine::fixed_step(s, st))
+    machine::fixed_step(s, st).into()
 }
 
 // A run from the fresh state with fixed priority.
 pub fn probe_fixed_run(s: FlowSet, budget: u32) -> ProbeRan
     ensures { result ≡ ran_numbers (fixed_run (used s) budget) }
 {
-    ran_numbers(machine::fixed_run(s, budget))
+    machine::fixed_run(s, budget).into()
 }
 
 // The text of the program for fixed priority.

@@ -1,4 +1,4 @@
-// Exported for the comparison alone: each function is probe's of the same name, with the same clauses.
+// Exported for the comparison alone: each function is probe's of the same name, with the same clauses. Kept: one function for each name that C calls.
 #![tactic(auto)]
 
 ghost use Rattle.std.specs.Prelude.{length, ◌≡◌};

@@ -1,76 +1,63 @@
-// Standard input read to its end, for the programs. A failed read is not the end: else the first lines of a set would be taken for the set.
+// What the programs share: standard input read to its end, and what is said of a failure. A failed read is not the end: else the first lines
+// of a set would be taken for the set.
 #![tactic(auto)]
 
-ghost use Rattle.std.specs.Prelude.{◌≡◌, length};
-ghost use Rattle.standard_input.specs.Reads.{CameWithin, came_of, InputWithin};
+ghost use Rattle.std.specs.Prelude.{◌≡◌, ◌≤◌, ◌<◌, length, IfOk};
+ghost use Rattle.std.specs.Io.KnownBytes.{IsAtEnd};
+ghost use Rattle.standard_input.specs.Reads.{came_of};
 
 use std::io;
 use std::io::{Error, ErrorKind, Read};
 
-// What one read did.
-#[derive(Clone, Copy)]
-pub enum Came {
-    Bytes(usize),
-    End,
-    Interrupted,
-    Broken(Error),
-}
-
-// The whole input, or none of it.
-#[derive(Clone, Copy)]
-pub enum Input {
-    Whole(usize),
-    Failed(Error),
-}
-
-// What the answer of a read means: only 0 is the end.
-fn came_of(answer: io::Result<usize>) -> Came
+// How many bytes a read's answer says came, 0 at the end; none where a signal interrupted the read, which is then made again.
+fn came_of(answer: io::Result<usize>) -> io::Result<Option<usize>>
     ensures { result ≡ came_of answer }
 {
     match answer {
-        Ok(0) => Came::End,
-        Ok(n) => Came::Bytes(n),
-        Err(error) => match error.kind() {
-            ErrorKind::Interrupted => Came::Interrupted,
-            _ => Came::Broken(error),
-        },
+        Ok(n) => Ok(Some(n)),
+        Err(error) if error.kind() == ErrorKind::Interrupted => Ok(None),
+        Err(error) => Err(error),
     }
 }
 
-// One read into the buffer's start.
-fn read_some<R: Read>(input: &mut R, buf: &mut [u8]) -> Came
-    ensures { CameWithin result (length buf.old) }
+// Reads until the input ends or the buffer is full, and says how many bytes came. A read that a signal interrupts is made again; any other
+// failed read leaves no input, one that would have to wait (EAGAIN) too.
+pub fn read_input<R: Read>(input: &mut R, buf: &mut [u8]) -> io::Result<usize>
+    ensures within { IfOk result (λ n. n ≤ length buf.new) }
+    ensures whole { IfOk result (λ n. n < length buf.new → IsAtEnd (R.remaining input.new)) }
 {
-    let answer = input.read(buf);
-    came_of(answer)
-}
-
-// Reads until the input ends or the buffer is full. A read that a signal interrupts is made again; any other failed read leaves no input,
-// one that would have to wait (EAGAIN) too.
-pub fn read_input<R: Read>(input: &mut R, buf: &mut [u8]) -> Input
-    ensures { InputWithin result (length buf.new) }
-{
-    let mut done: usize = 0;
-    let mut turns = u64::MAX;
-    while done < buf.len() {
-        let came = read_some(input, &mut buf[done..]);
-        match came {
-            Came::Bytes(n) => {
-                done += n;
-            }
-            Came::End => {
-                return Input::Whole(done);
-            }
-            Came::Interrupted => {
-                if turns == 0 {
-                    return Input::Failed(Error::from(ErrorKind::Interrupted));
-                }
-                turns -= 1;
-            }
-            Came::Broken(error) => {
-                return Input::Failed(error);
-            }
+    let mut done = 0;
+    for _ in 0..u64::MAX {
+        if done == buf.len() {
+            return Ok(done);
+        }
+        match came_of(input.read(&mut buf[done..]))? {
+            Some(0) => return Ok(done),
+            Some(n) => done += n,
+            None => {}
         }
     }
-    Input::Whole(done)
+    Err(Error::from(ErrorKind::Interrupted))
+}
+
+// Runs a program that writes what it has to say of its input. A failure is said on standard error in the program's name; an input that cannot be
+// read to its end gives no text.
+pub fn run<F: FnOnce(&[u8]) -> io::Result<()>>(
+    rt: &HostRuntime,
+    program: &str,
+    buf: &mut [u8],
+    write: F,
+)
+    requires { F.IsAlwaysCallable write }
+{
+    match read_input(&mut rt.stdin(), buf) {
+        Ok(n) => {
+            if let Err(error) = write(&buf[..n]) {
+                let _ = eprintln!(rt; "{program}: cannot write standard output: {error}");
+            }
+        }
+        Err(error) => {
+            let _ = eprintln!(rt; "{program}: cannot read standard input: {error}");
+        }
+    }
 }

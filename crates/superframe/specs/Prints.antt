@@ -1,6 +1,5 @@
 -- What is written for an input: all parts of its table, or the line of its refusal. No contract can say that bytes are written: these say which were made.
-use Prim.{tt}
-use Rattle.std.specs.Prelude.{◌≡◌, true, false, List, [], ◌∷◌, ℕ, ◌+◌, ◌-◌, ◌≤◌, ◌<◌, length, take}
+use Rattle.std.specs.Prelude.{◌≡◌, true, List, [], ◌∷◌, ℕ, ◌+◌, ◌-◌, ◌≤◌, ◌<◌, length, take, Option, Some, None}
 use Rattle.std.proofs.Common.{ap, ◌∙◌, arith}
 use Rattle.model.specs.declared.kinds.{FlowSet.{FlowSet}, State.{State}}
 use Rattle.model.specs.declared.answers.Fault.{Fault}
@@ -11,12 +10,11 @@ use Rattle.document.specs.Reader.{read_text, record_fault}
 use Rattle.document.specs.Program.{refused_line, refused_word}
 use Rattle.document.specs.Superframe.{hyper, most_hyper, row_lines, rows_to, superframe_text}
 use Rattle.text.specs.{Lengths.{line_le, put_length, put_read}, NamedLine.{refused_line_law}, Put.{Put}}
-use Rattle.superframe_table.specs.Parts.{part_slots, parts_state, parts_text, state_after}
+use Rattle.superframe_table.specs.declared.parts.Part.{Part}
+use Rattle.superframe_table.specs.Parts.{part_of, part_slots, parts_state, parts_text}
 use Rattle.superframe_table.specs.PartsJoined.{parts_next, parts_rise, parts_slot, parts_whole, parts_within}
-use Rattle.superframe.specs.Loads.{Loads, load_good, load_fault, prints_refusal, prints_table}
+use Rattle.superframe.specs.Loads.{Holds, Refuses, load_fault, prints_refusal, prints_table}
 use Rattle.superframe.specs.declared.loading.Loaded.{Loaded}
-use Rattle.superframe.specs.declared.Wrote.{Wrote}
-use Rattle.superframe.specs.declared.Wrote.TheVariants.{Parts, Refusal, Failed}
 
 -- the room of every part, and of a refusal's line
 abbrev pub part_room : ℕ → ℕ
@@ -26,22 +24,13 @@ abbrev pub most_refusal : ℕ
 most_refusal = 48
 
 -- n parts together are the lines of h slots
-abbrev pub WholeTable : FlowSet → ℕ → Wrote → Type 0
-WholeTable s h (Parts n) = parts_text s h part_room n ≡ row_lines (rows_to s h)
-WholeTable s h Refusal = ⊥
-WholeTable s h (Failed e) = Unit {0}
+abbrev pub WholeTable : FlowSet → ℕ → ℕ → Type 0
+WholeTable s h n = parts_text s h part_room n ≡ row_lines (rows_to s h)
 
--- no part
-abbrev pub NoTable : Wrote → Type 0
-NoTable (Parts n) = ⊥
-NoTable Refusal = Unit {0}
-NoTable (Failed e) = Unit {0}
-
--- the parts of an input's table, or its refusal's line, are what the program prints
-abbrev pub Prints : List ℕ → Wrote → Type 0
-Prints input (Parts n) = parts_text (used (read_text input).set) (hyper (used (read_text input).set)) part_room n ≡ superframe_text input
-Prints input Refusal = refused_line (load_fault input) ≡ superframe_text input
-Prints input (Failed e) = Unit {0}
+-- the parts of an input's table, or its refusal's line where there are none, are what the program prints
+abbrev pub Prints : List ℕ → Option ℕ → Type 0
+Prints input (Some n) = parts_text (used (read_text input).set) (hyper (used (read_text input).set)) part_room n ≡ superframe_text input
+Prints input None = refused_line (load_fault input) ≡ superframe_text input
 
 -- ---- a turn of the loop: the state is that after the parts so far
 
@@ -52,38 +41,28 @@ pub record Turn (s : FlowSet) (h parts : ℕ) (st next : State) : Type 0 where
 
 module _ (s : FlowSet) (g : good (record_fault s).refusal ≡ true) (h : ℕ) (l : h ≤ most_hyper) (parts : ℕ) (st : State)
     (e : st ≡ parts_state s h part_room parts) where
-  pub one_more : st.slot.0 < h → (room : ℕ) → room ≡ 65536 → (next : State) → next ≡ state_after s st (part_slots h st room) → Turn s h parts st next
-  one_more i room r next f =
-      let q : next ≡ parts_state s h part_room (parts + 1) = f ∙ rw (e, r) (parts_next s h part_room parts) in
+  pub one_more : st.slot.0 < h → (room : ℕ) → room ≡ 65536 → (part : Part) → part ≡ part_of s st (part_slots h st room)
+      → Turn s h parts st part.state
+  one_more i room r part f =
+      let q : part.state ≡ parts_state s h part_room (parts + 1) = ap (λ (x : Part). x.state) f ∙ rw (e, r) (parts_next s h part_room parts) in
       let a = parts_slot s g h (omega arith) part_room parts in
       let b = parts_rise s g h (omega arith) part_room (λ i. omega arith) parts in
       let c = ap (λ (x : State). x.slot.0) e in
       let d = ap (λ (x : State). x.slot.0) q in
       record { state = q; nearer = omega (arith, a, c, d); few = omega (arith, b, c) }
 
-  pub all_parts : h ≤ st.slot.0 → parts_text s h part_room parts ≡ row_lines (rows_to s h)
+  pub all_parts : h ≤ st.slot.0 → WholeTable s h parts
   all_parts i =
       let c = ap (λ (x : State). x.slot.0) e in
       parts_whole s g h (omega arith) part_room parts (omega (arith, c, parts_within s g h (omega arith) part_room parts))
 
 -- ---- what was written
 
-module _ (input : List ℕ) (r : Loaded) (l : Loads input r) (w : Wrote) where
-  pub refusal_prints : good r.fault.refusal ≡ false → NoTable w → Prints input w
-  refusal_prints b h = go w h
-    where
-      go : (w : Wrote) → NoTable w → Prints input w
-      go (Parts n) h = absurd h
-      go Refusal h = prints_refusal input (rw (← l.fault) b)
-      go (Failed e) h = tt
+pub refusal_prints : (input : List ℕ) (f : Fault) → Refuses input f → Prints input None
+refusal_prints input f l = prints_refusal input (rw (← l.fault) l.refused)
 
-  pub table_prints : good r.fault.refusal ≡ true → WholeTable (used r.set) r.hyper w → Prints input w
-  table_prints g h = go w (rw (l.slots g, l.set g) at h)
-    where
-      go : (w : Wrote) → WholeTable (used (read_text input).set) (hyper (used (read_text input).set)) w → Prints input w
-      go (Parts n) h = h ∙ prints_table input (load_good l g)
-      go Refusal h = absurd h
-      go (Failed e) h = tt
+pub table_prints : (input : List ℕ) (r : Loaded) → Holds input r → (n : ℕ) → WholeTable (used r.set) r.hyper n → Prints input (Some n)
+table_prints input r l n h = rw (l.slots, l.set) at h ∙ prints_table input l.passes
 
 -- a refusal's line has room
 pub refusal_left : (f : Fault) (n : ℕ) → n ≡ refusal_number f.refusal → {o out : List ℕ} {r : ℕ} → most_refusal ≤ length o

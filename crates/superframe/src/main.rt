@@ -3,18 +3,17 @@
 
 mod loading;
 
-ghost use Rattle.std.specs.Prelude.{true, ◌≡◌, ◌+◌, ◌≤◌, length, take};
+ghost use Rattle.std.specs.Prelude.{true, IfOk, ◌≡◌, ◌+◌, ◌≤◌, length, take};
 ghost use Rattle.model.specs.Refusals.{good};
 ghost use Rattle.model.specs.Sets.{used};
 ghost use Rattle.document.specs.Program.{most_input, refused_line};
 ghost use Rattle.document.specs.Reader.{record_fault};
 ghost use Rattle.document.specs.Superframe.{most_hyper};
 ghost use Rattle.laws.specs.LinesRead.{last_line};
-ghost use Rattle.superframe.specs.Prints.{NoTable, Prints, WholeTable, most_refusal};
+ghost use Rattle.superframe.specs.Prints.{Prints, WholeTable, most_refusal};
 
 use crate::loading::{MOST_INPUT, load};
 use model::{Fault, FlowSet, State};
-use standard_input::{Input, read_input};
 use std::io;
 
 // No refusal's line has more bytes.
@@ -23,33 +22,22 @@ const MOST_REFUSAL: usize = 48;
 // The room of a part of the table.
 const PART_ROOM: usize = 65536;
 
-// What came of writing: so many parts of the table, the line of the refusal, or a write that failed.
-#[derive(Clone, Copy)]
-pub enum Wrote {
-    Parts(usize),
-    Refusal,
-    Failed(io::Error),
-}
-
-// Writes the lines of a table part by part; stops at the first write that fails.
-fn write_parts(rt: &impl Print, set: FlowSet, hyper: u32) -> Wrote
+// Writes the lines of a table part by part, and says how many parts; stops at the first write that fails.
+fn write_parts(rt: &impl Print, set: FlowSet, hyper: u32) -> io::Result<usize>
     requires { (good (record_fault (used set)).refusal ≡ true) × (hyper ≤ most_hyper) }
-    ensures { WholeTable (used set) hyper result }
+    ensures { IfOk result (WholeTable (used set) hyper) }
 {
     let mut out = [0u8; PART_ROOM];
     let mut st = State::fresh();
-    let mut parts = 0usize;
+    let mut parts = 0;
+    // Kept: no `for`, since only a part's answer says at which slot the next begins.
     while st.slot.0 < hyper {
         let part = superframe_table::superframe_part(set, st, hyper, &mut out);
-        let m = part.length;
-        if let Err(error) = rt.write_all(&out[..m]) {
-            return Wrote::Failed(error);
-        }
-        let next = part.state;
-        st = next;
+        rt.write_all(&out[..part.length])?;
+        st = part.state;
         parts += 1;
     }
-    Wrote::Parts(parts)
+    Ok(parts)
 }
 
 // The line of a refusal in a buffer that has room for it.
@@ -57,55 +45,42 @@ fn refusal_line(fault: Fault, out: &mut [u8]) -> usize
     requires { (fault.line ≤ last_line) × (fault.field ≤ most_input + 1) × (most_refusal ≤ length out.old) }
     ensures { (take result out.new ≡ refused_line fault) × (result ≤ most_refusal) }
 {
-    let refusal = fault.refusal;
     text::put_refused(
         out,
         0,
-        refusal.code() as u32,
+        fault.refusal.code() as u32,
         fault.line as u32,
         fault.field as u32,
     )
 }
 
 // Writes the line of a refusal.
-fn write_refusal(rt: &impl Print, fault: Fault) -> Wrote
+fn write_refusal(rt: &impl Print, fault: Fault) -> io::Result<()>
     requires { (fault.line ≤ last_line) × (fault.field ≤ most_input + 1) }
-    ensures { NoTable result }
 {
     let mut out = [0u8; MOST_REFUSAL];
     let n = refusal_line(fault, &mut out);
-    if let Err(error) = rt.write_all(&out[..n]) {
-        return Wrote::Failed(error);
-    }
-    Wrote::Refusal
+    rt.write_all(&out[..n])
 }
 
-// Writes the lines of an input's table, or of its refusal.
-fn write_superframe(rt: &impl Print, input: &[u8]) -> Wrote
-    ensures { Prints input.now result }
+// Writes the lines of an input's table, and says in how many parts, or the line of its refusal.
+fn write_superframe(rt: &impl Print, input: &[u8]) -> io::Result<Option<usize>>
+    ensures { IfOk result (Prints input.now) }
 {
-    let loaded = load(input);
-    let fault = loaded.fault;
-    if fault.refuses() {
-        return write_refusal(rt, fault);
+    match load(input) {
+        Ok(loaded) => Ok(Some(write_parts(rt, loaded.set, loaded.hyper)?)),
+        Err(fault) => {
+            write_refusal(rt, fault)?;
+            Ok(None)
+        }
     }
-    let set = loaded.set;
-    write_parts(rt, set, loaded.hyper)
 }
 
-// An input that cannot be read to its end gives no table.
+// Writes the table of standard input, or why there is none. Kept: the input stands in a buffer of fixed size, since there is no heap.
 fn main(rt: HostRuntime) {
     let mut input = [0u8; MOST_INPUT + 1];
-    let read = read_input(&mut rt.stdin(), &mut input);
-    match read {
-        Input::Whole(n) => {
-            let wrote = write_superframe(&rt, &input[..n]);
-            if let Wrote::Failed(error) = wrote {
-                let _ = eprintln!(rt; "superframe: cannot write standard output: {error}");
-            }
-        }
-        Input::Failed(error) => {
-            let _ = eprintln!(rt; "superframe: cannot read standard input: {error}");
-        }
-    }
+    standard_input::run(&rt, "superframe", &mut input, |input| {
+        write_superframe(&rt, input)?;
+        Ok(())
+    });
 }

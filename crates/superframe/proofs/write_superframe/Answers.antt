@@ -1,19 +1,13 @@
--- `write_superframe` writes what is printed for the input: the line of its refusal, or the parts of its table. Assumes nothing.
-use Rattle.laws.specs.Codes.{accepts, refuses}
+-- `write_superframe` writes what is printed for the input: the parts of its table, or the line of its refusal. Assumes nothing.
 use Rattle.superframe.specs.Loads.{loaded_set}
 use Rattle.superframe.specs.Prints.{refusal_prints, table_prints}
 use Rattle.superframe.proofs.write_superframe.Goals as goal
 
-pub returns-then-refuses : goal.returns-then-refuses
-returns-then-refuses g c =
-    let k = c.load-loaded in
-    refusal_prints _ k.result k.ensures c.write_refusal.result (refuses k.result.fault c.refuses.ensures c.if-refuses.true) c.write_refusal.ensures
-
 pub write_parts-requires : goal.write_parts-requires
-write_parts-requires g c =
-    let k = c.load-loaded in loaded_set k.ensures (accepts k.result.fault c.refuses.ensures c.if-refuses.false)
+write_parts-requires g c = loaded_set c.in-Ok.ensures
 
-pub returns : goal.returns
-returns g c =
-    let k = c.load-loaded in
-    table_prints _ k.result k.ensures c.write_parts.result (accepts k.result.fault c.refuses.ensures c.if-refuses.false) c.write_parts.ensures
+pub returns-in_ok-write_parts-in-Ok : goal.returns-in_ok-write_parts-in-Ok
+returns-in_ok-write_parts-in-Ok g c = table_prints _ _ c.in-Ok.ensures _ c.in_ok-write_parts-in-Ok.ensures
+
+pub returns-in_ok-write_refusal-in-Err : goal.returns-in_ok-write_refusal-in-Err
+returns-in_ok-write_refusal-in-Err g c = refusal_prints _ _ c.in-Err.ensures
