@@ -1,7 +1,7 @@
 -- What the record check says of a set and of its flows.
-use Rattle.std.specs.Prelude.{◌≡◌, true, false, ℕ, ◌≤◌, ◌<◌}
-use Rattle.std.proofs.Common.{sym, ◌∙◌}
-use Rattle.std.proofs.lemmas.Bool.{false≢true}
+use Rattle.std.specs.Prelude.{◌≡◌, Bool, true, false, not, ℕ, ◌≤◌, ◌<◌}
+use Rattle.std.proofs.Common.{sym, ap, ◌∙◌}
+use Rattle.std.proofs.lemmas.Bool.{false≢true, not-true, not-false}
 use Rattle.model.specs.declared.kinds.FlowSet.{FlowSet}
 use Rattle.model.specs.declared.answers.Fault.{Fault}
 use Rattle.model.specs.Limits.{most_flows}
@@ -10,6 +10,13 @@ use Rattle.model.specs.Sets.{flow_at, exact, used}
 use Rattle.document.specs.Reader.{record_fault}
 use Rattle.laws.specs.Accepted.{Accepted, GoodFlow}
 use Rattle.laws.specs.Used.{used_flow, used_count}
+
+-- whether the check refuses the set
+pub not_refused : (f g : Fault) (b : Bool) → f ≡ g → b ≡ not (good f.refusal) → b ≡ false → good g.refusal ≡ true
+not_refused f g b e h z = not-false (good g.refusal) (sym (h ∙ ap (λ (x : Fault). not (good x.refusal)) e) ∙ z)
+
+pub is_refused : (f g : Fault) (b : Bool) → f ≡ g → b ≡ not (good f.refusal) → b ≡ true → good g.refusal ≡ false
+is_refused f g b e h z = not-true (good g.refusal) (sym (h ∙ ap (λ (x : Fault). not (good x.refusal)) e) ∙ z)
 
 -- why the record check refuses the set
 pub record RefusedBy (s : FlowSet) (f : Fault) : Type 0 where

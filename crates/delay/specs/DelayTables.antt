@@ -1,6 +1,6 @@
 -- What the tables of a set hold: of each pair of flows what no round changes, of each flow T, D, C and the sums of q·S and q·C. The tables
 -- that are made row by row are the set's.
-use Rattle.std.specs.Prelude.{◌≡◌, refl, ℕ, ◌*◌, ◌≤◌, ◌<◌, ◌+◌, ◌/◌, ◌%◌, List, replicate, set, Bool, true, false, cond, eqb}
+use Rattle.std.specs.Prelude.{◌≡◌, refl, ℕ, ◌*◌, ◌≤◌, ◌<◌, ◌+◌, ◌/◌, ◌%◌, List, zero, suc, replicate, set, Bool, true, false, cond, eqb}
 use Rattle.std.proofs.Common.{◌∙◌, inl, inr, le_trans, le_of_eq, length-set, get_or-set_same, get_or-set_other, zero-mul, arith}
 use Rattle.std.proofs.Math.Path.{ap₂}
 use Rattle.std.proofs.Math.ListN.{get_or}
@@ -52,15 +52,26 @@ pub record TablesHold (s : FlowSet) (t : Tables) : Type 0 where
   pub conflicts : GridOf conflict_of s t.conflict
   pub remainders : GridOf remainder_of s t.remainder
   pub wholes : (k : ℕ) → k < s.count → WholeOf s k (get_or t.whole k no_sums)
+  pub none : (k : ℕ) → s.count ≤ k → get_or t.whole k no_sums ≡ no_sums
   pub works_le : (k : ℕ) → k < s.count → work_at s k ≤ 64
 
 pub zero_from_start : (n : ℕ) → ZeroFrom n (replicate most_flows 0)
 zero_from_start n = record { whole = length-replicate {A = ℕ} most_flows 0; none = λ l h. zeros most_flows l }
 
+no_sums_yet : (n i : ℕ) → get_or (replicate n no_sums) i no_sums ≡ no_sums
+no_sums_yet zero i = refl
+no_sums_yet (suc n) zero = refl
+no_sums_yet (suc n) (suc i) = no_sums_yet n i
+
 -- one row more
 pub shares_start : (n : ℕ) (p : FlowNumbers) (c : List ℕ) → SharesTo n 0 p c (replicate (most_flows * most_flows) 0) (replicate most_flows no_sums)
 shares_start n p c =
-    record { remainders = rows_start _ (λ i. n); whole = length-replicate {A = Sums} most_flows no_sums; sums = λ i h. absurd (omega arith) }
+    record {
+      remainders = rows_start _ (λ i. n);
+      whole = length-replicate {A = Sums} most_flows no_sums;
+      sums = λ i h. absurd (omega arith);
+      none = λ i h. no_sums_yet most_flows i;
+    }
 
 pub shares_next : (n k : ℕ) (p : FlowNumbers) (c t u : List ℕ) (x : List Sums) (y : Sums) → k < n → n ≤ most_flows → SharesTo n k p c t x
     → RowDone (remainder_row p k) n k t u → SumsOf n p c k y → SharesTo n (k + 1) p c u (set x k y)
@@ -73,6 +84,7 @@ shares_next n k p c t u x y hk hn o r a =
         | yes q ↦ let z : i ≡ k = omega arith in rw (z, get_or-set_same x k y no_sums (omega arith)) a
         | no q ↦ rw (get_or-set_other x k i y no_sums (λ z. omega arith)) (o.sums i (omega arith))
       ];
+      none = λ i j. get_or-set_other x k i y no_sums (λ z. omega arith) ∙ o.none i (omega arith);
     }
 
 -- the tables as they are lent
@@ -142,5 +154,6 @@ module _ (s : FlowSet) (a : Accepted s) (p : FlowNumbers) (o : FlowNumbersTo s s
           work = z.work ∙ whole_carried k h (λ l. get_or p.work l 0) (work_at s) (λ l j. o.works.entry l j);
           work_le = z.work_le;
         };
+        none = r.none;
         works_le = work_le_most s a;
       }

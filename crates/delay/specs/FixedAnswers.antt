@@ -7,14 +7,14 @@ use Rattle.model.specs.declared.answers.{Fault.{Fault}, FixedBounds.{FixedBounds
 use Rattle.model.specs.declared.answers.Refusal.TheVariants.{NoSuchFlow}
 use Rattle.model.specs.{Refusals.{good, fault_at, no_fault, refused_fixed_bounds, refused_fixed_verdict}, Sets.{flow_at}}
 use Rattle.document.specs.Reader.{record_fault}
-use Rattle.document.specs.Delay.{admits, work_at}
+use Rattle.document.specs.Delay.{admits, verdict_of, work_at}
 use Rattle.document.specs.Fixed.{fixed_bound, fixed_bounds_if, fixed_bounds_of, fixed_verdict_if, fixed_verdict_of, judged}
 use Rattle.laws.specs.FixedBounds.{judged_by_count}
 use Rattle.delay.specs.declared.fixed.AllFixed.{AllFixed}
 use Rattle.delay.specs.AllFixed.{AllFixedOf}
 use Rattle.delay.specs.FixedJudged.{AllJudged}
 use Rattle.delay.specs.AcceptedFlows.{RefusedBy}
-use Rattle.delay.specs.VerdictAnswers.{admits_ext, answer_given, answer_none, answer_refused}
+use Rattle.delay.specs.VerdictAnswers.{admits_ext, answer_given, answer_none, answer_refused, fault_given, fault_refused}
 
 -- the two answers of a verdict
 fixed_good : (s : FlowSet) → good (record_fault s).refusal ≡ true → fixed_verdict_of s ≡ fixed_verdict_if s true
@@ -24,6 +24,14 @@ fixed_good s e = ap (fixed_verdict_if s) e
 fixed_bad : (s : FlowSet) → good (record_fault s).refusal ≡ false → fixed_verdict_of s ≡ fixed_verdict_if s false
 unfolding fixed_verdict_of
 fixed_bad s e = ap (fixed_verdict_if s) e
+
+-- it is refused as document 01's is
+pub fixed_fault : (s : FlowSet) → (fixed_verdict_of s).fault ≡ (verdict_of s).fault
+fixed_fault s = go (good (record_fault s).refusal) refl
+  where
+    go : (b : Bool) → good (record_fault s).refusal ≡ b → (fixed_verdict_of s).fault ≡ (verdict_of s).fault
+    go true e = ap (λ (v : FixedVerdict). v.fault) (fixed_good s e) ∙ sym (fault_given s e)
+    go false e = ap (λ (v : FixedVerdict). v.fault) (fixed_bad s e) ∙ sym (fault_refused s e)
 
 -- the three answers for one flow
 pub fixed_refused : (s : FlowSet) (k : ℕ) (f : Fault) → RefusedBy s f → refused_fixed_bounds f ≡ fixed_bounds_of s k

@@ -64,11 +64,12 @@ pub record SumsOf (n : ℕ) (p : FlowNumbers) (c : List ℕ) (i : ℕ) (x : Sums
   pub work : x.work ≡ packet_sum p n i (λ l. get_or p.work l 0)
   pub work_le : x.work ≤ 268431360
 
--- r, Σ q·S and Σ q·C of the first k flows
+-- r, Σ q·S and Σ q·C of the first k flows; the other sums are 0
 pub record SharesTo (n k : ℕ) (p : FlowNumbers) (c t : List ℕ) (x : List Sums) : Type 0 where
   pub remainders : RowsTo (remainder_row p) n k t
   pub whole : length x ≡ most_flows
   pub sums : (i : ℕ) → i < k → SumsOf n p c i (get_or x i no_sums)
+  pub none : (i : ℕ) → k ≤ i → get_or x i no_sums ≡ no_sums
 
 -- the numbers of no flows
 abbrev pub blank_numbers : FlowNumbers

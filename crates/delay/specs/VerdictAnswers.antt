@@ -1,5 +1,5 @@
 -- From the answer for all flows to the verdicts and to one flow's bounds.
-use Rattle.std.specs.Prelude.{◌≡◌, refl, Bool, true, false, ◌&&◌, ℕ, ◌≤◌, ◌<◌, zero, suc, ◌+◌, leb, ℤ, pos, ◌-ℤ◌, get_or}
+use Rattle.std.specs.Prelude.{◌≡◌, refl, Bool, true, false, not, ◌&&◌, ℕ, ◌≤◌, ◌<◌, zero, suc, ◌+◌, leb, ℤ, pos, ◌-ℤ◌, get_or}
 use Rattle.std.proofs.Common.{sym, ap, ◌∙◌, ap₂, le-leb, le_refl, add-one, arith}
 use Rattle.std.proofs.lemmas.Bool.{lt-leb}
 use Rattle.std.proofs.Math.Decide.{ℕ_discrete}
@@ -16,7 +16,7 @@ use Rattle.model.specs.Sums.{all_to}
 use Rattle.model.specs.Sets.{flow_at, used}
 use Rattle.model.specs.declared.kinds.Flow.{Flow}
 use Rattle.laws.specs.Used.{used_flow}
-use Rattle.delay.specs.AcceptedFlows.{RefusedBy}
+use Rattle.delay.specs.AcceptedFlows.{not_refused, is_refused, RefusedBy}
 use Rattle.delay.specs.declared.verdicts.AllBounds.{AllBounds}
 use Rattle.delay.specs.AllBounds.{AllBoundsOf}
 
@@ -138,6 +138,29 @@ pub bounds_made : (s : FlowSet) (k : ℕ) (f : Fault) (w b t : ℕ) (d : Span) (
 bounds_made s k f w b t d m p q r x y z =
     let e : m ≡ pos (flow_at s k).deadline.0 -ℤ pos (tight_bound s k) = z ∙ ap₂ (λ (i : Span) (j : ℕ). pos i.0 -ℤ pos j) y x in
     λ i. record { fault = p i; work = q i; basic = r i; tightened = x i; deadline = y i; margin = e i }
+
+-- the verdict's fault is the record check's, or none
+pub fault_given : (s : FlowSet) → good (record_fault s).refusal ≡ true → (verdict_of s).fault ≡ no_fault
+fault_given s e = ap (λ (v : Verdict). v.fault) (verdict_good s e)
+
+pub fault_refused : (s : FlowSet) → good (record_fault s).refusal ≡ false → (verdict_of s).fault ≡ record_fault s
+fault_refused s e = ap (λ (v : Verdict). v.fault) (verdict_bad s e)
+
+-- so it refuses the set where that does
+fault_entry : (s : FlowSet) → good (verdict_of s).fault.refusal ≡ good (record_fault s).refusal
+fault_entry s = go (good (record_fault s).refusal) refl
+  where
+    go : (b : Bool) → good (record_fault s).refusal ≡ b → good (verdict_of s).fault.refusal ≡ b
+    go true e = ap (λ (f : Fault). good f.refusal) (fault_given s e)
+    go false e = ap (λ (f : Fault). good f.refusal) (fault_refused s e) ∙ e
+
+pub passed_by : (s : FlowSet) (f : Fault) (b : Bool) → f ≡ (verdict_of s).fault → b ≡ not (good f.refusal) → b ≡ false
+    → good (record_fault s).refusal ≡ true
+passed_by s f b o h z = sym (fault_entry s) ∙ not_refused f (verdict_of s).fault b o h z
+
+pub refused_by : (s : FlowSet) (f : Fault) (b : Bool) → f ≡ (verdict_of s).fault → b ≡ not (good f.refusal) → b ≡ true
+    → good (record_fault s).refusal ≡ false
+refused_by s f b o h z = sym (fault_entry s) ∙ is_refused f (verdict_of s).fault b o h z
 
 -- a verdict of a refused set
 pub verdict_refused : (s : FlowSet) (f : Fault) → RefusedBy s f → refused_verdict f ≡ verdict_of s

@@ -141,7 +141,7 @@ pub fn fixed_of_accepted(s: FlowSet) -> AllFixed
 pub fn all_fixed(s: FlowSet) -> Result<AllFixed, Fault>
     ensures { AllFixedAnswer (used s) result }
 {
-    rules::record_fault(s)?;
+    rules::record_fault_of(&s)?;
     Ok(fixed_of_accepted(s))
 }
 

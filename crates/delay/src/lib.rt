@@ -62,7 +62,7 @@ pub fn bounds_of_accepted(s: FlowSet) -> AllBounds
 pub fn all_bounds(s: FlowSet) -> Result<AllBounds, Fault>
     ensures { AllBoundsAnswer (used s) result }
 {
-    rules::record_fault(s)?;
+    rules::record_fault_of(&s)?;
     Ok(bounds_of_accepted(s))
 }
 

@@ -5,7 +5,7 @@ ghost use Rattle.document.specs.Reader.{record_fault};
 ghost use Rattle.document.specs.Superframe.{flat, rows_to};
 ghost use Rattle.model.specs.Sets.{used};
 
-use model::{ChannelMap, FlowSet, Order, Ran, Slot, State, Stepped};
+use model::{ChannelMap, Fault, FlowSet, Order, Ran, Slot, State, Stepped};
 
 pub fn step(s: FlowSet, st: State) -> (Stepped, Stepped)
     ensures { result.0 ≡ result.1 }
@@ -38,6 +38,16 @@ pub fn step_accepted(by: Order, s: FlowSet, st: State) -> (Stepped, Stepped)
     (
         machine::step_accepted(by, s, st),
         machine::step_accepted(by, s, st),
+    )
+}
+
+pub fn step_after(fault: Fault, by: Order, s: FlowSet, st: State) -> (Stepped, Stepped)
+    requires { fault ≡ record_fault (used s) }
+    ensures { result.0 ≡ result.1 }
+{
+    (
+        machine::step_after(fault, by, s, st),
+        machine::step_after(fault, by, s, st),
     )
 }
 

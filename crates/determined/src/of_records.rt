@@ -130,6 +130,12 @@ pub fn record_fault(s: FlowSet) -> (Result<(), Fault>, Result<(), Fault>)
     (rules::record_fault(s), rules::record_fault(s))
 }
 
+pub fn record_fault_of(s: &FlowSet) -> (Result<(), Fault>, Result<(), Fault>)
+    ensures { result.0 ≡ result.1 }
+{
+    (rules::record_fault_of(s), rules::record_fault_of(s))
+}
+
 pub fn fault_none() -> (Fault, Fault)
     ensures { result.0 ≡ result.1 }
 {

@@ -17,13 +17,17 @@ fn whole_text(input: &[u8], out: &mut [u8]) -> Written
     plan_text::fixed(input, out)
 }
 
-// Writes the text for standard input. That every text has room in its buffer is proved. Kept: buffers of fixed size, since there is no heap;
-// and a main for each program, since a function of its own says what it writes.
+// Writes the text for standard input. That every text has room in its buffer is proved; if it had not, the program would say so. Kept: buffers of
+// fixed size, since there is no heap; and a main for each program, since a function of its own says what it writes.
 fn main(rt: HostRuntime) {
     let mut input = [0u8; plan_text::MOST_INPUT + 1];
     let mut out = [0u8; plan_text::MOST_PLAN];
     standard_input::run(&rt, "fixed", &mut input, |input| {
         let w = whole_text(input, &mut out);
+        if w.fault.refuses() {
+            let _ = eprintln!(rt; "fixed: the text is longer than its buffer");
+            return Ok(());
+        }
         rt.write_all(&out[..w.length])
     });
 }

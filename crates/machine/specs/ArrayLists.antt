@@ -34,6 +34,18 @@ through_next f n old new x h e t =
       above = λ k l. get_or-set_other new n k x 0 (λ q. omega arith) ∙ t.above k (omega arith);
     }
 
+-- an entry that is f's already may stay
+pub through_stay : (f : ℕ → ℕ) (n : ℕ) (old new : List ℕ) → get_or old n 0 ≡ f n → Through f n old new → Through f (n + 1) old new
+through_stay f n old new e t =
+    record {
+      long = t.long;
+      below = λ k l. elim (dec_le n k) [
+        | yes d ↦ let q : k ≡ n = omega arith in rw q (t.above n (le_refl n) ∙ e)
+        | no d ↦ t.below k (omega arith)
+      ];
+      above = λ k l. t.above k (omega arith);
+    }
+
 -- the same at an equal number of entries
 pub through_all : (f : ℕ → ℕ) (n m : ℕ) (old new : List ℕ) → n ≡ m → Through f n old new → Through f m old new
 through_all f n m old new e t = rw (← e) t
@@ -183,8 +195,15 @@ get_or_zeros (suc n) zero = refl
 get_or_zeros (suc n) (suc k) = get_or_zeros n k
 
 -- entries within a bound, and one more
-pub set_le : (l : List ℕ) (k x m : ℕ) → ((j : ℕ) → get_or l j 0 ≤ m) → x ≤ m → (j : ℕ) → get_or (set l k x) j 0 ≤ m
-set_le l k x m a b j = elim (dec_le (length l) k) [
+pub set_le : (l : List ℕ) (k x m : ℕ) → k < length l → ((j : ℕ) → j < k → get_or l j 0 ≤ m) → x ≤ m → (j : ℕ) → j < k + 1 → get_or (set l k x) j 0 ≤ m
+set_le l k x m h a b j i = elim (dec_le k j) [
+  | yes d ↦ let e : j ≡ k = omega arith in rw (e, get_or-set_same l k x 0 h) b
+  | no d ↦ rw (get_or-set_other l k j x 0 (λ e. omega arith)) (a j (omega arith))
+]
+
+-- and of a whole list, wherever one is put
+pub set_le_all : (l : List ℕ) (k x m : ℕ) → ((j : ℕ) → get_or l j 0 ≤ m) → x ≤ m → (j : ℕ) → get_or (set l k x) j 0 ≤ m
+set_le_all l k x m a b j = elim (dec_le (length l) k) [
   | yes d ↦ rw (set_past l k x d) (a j)
   | no d ↦ go (eqb j k) refl d
 ]

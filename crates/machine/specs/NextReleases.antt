@@ -1,14 +1,15 @@
 -- A run goes from slot to slot without a division: beside a flow's absolute deadline it keeps the flow's next release. Only where that is the
 -- present slot does either of them change, and only there does the packet's count start again.
-use Rattle.std.specs.Prelude.{◌≡◌, refl, ◌⊎◌, Bool, true, false, cond, List, ℕ, suc, ◌+◌, ◌-◌, ◌*◌, ◌≤◌, ◌<◌, eqb, get_or}
-use Rattle.std.proofs.Common.{sym, ap, ◌∙◌, inl, inr, zero-le, suc-mul, zero-mul, arith, eqb-true, eq-eqb, ne_eqb}
+use Rattle.std.specs.Prelude.{◌≡◌, refl, ◌⊎◌, Bool, true, false, cond, List, ℕ, suc, ◌+◌, ◌-◌, ◌*◌, ◌≤◌, ◌<◌, eqb, length, get_or, set}
+use Rattle.std.proofs.Common.{sym, ap, ◌∙◌, inl, inr, zero-le, le_refl, suc-mul, zero-mul, arith, eqb-true, eq-eqb, ne_eqb, get_or-set_same, get_or-set_other}
+use Rattle.std.proofs.Math.Decide.{dec_le}
 use Rattle.std.proofs.lemmas.Bool.{eqb-false}
 use Rattle.std.proofs.Math.Arith.{digits_div}
 use Rattle.model.specs.declared.kinds.FlowSet.{FlowSet}
 use Rattle.model.specs.declared.kinds.State.{State}
 use Rattle.model.specs.Sets.{used}
 use Rattle.document.specs.Machine.{count_at}
-use Rattle.machine.specs.ArrayLists.{Through}
+use Rattle.machine.specs.ArrayLists.{Through, through_next, through_stay}
 use Rattle.machine.specs.LentArrays.{Numbers, Releases, releases_of, packets_of}
 use Rattle.machine.specs.PacketNumbers.{due_in, due_first, had_in, PacketsHold}
 use Rattle.machine.specs.States.{GoodState}
@@ -76,9 +77,57 @@ pub record Released (count t : ℕ) (period deadline : List ℕ) (before after :
   pub nexts : Through (released_by t before.next (λ k. t + get_or period k 0) before.next) count before.next after.next
   pub sents : Through (released_by t before.next (λ k. 0) before.sent) count before.sent after.sent
 
+-- with no release nothing changes
+pub released_none : (count t : ℕ) (period deadline : List ℕ) (r : Releases) → ((k : ℕ) → k < count → t < get_or r.next k 0)
+    → Released count t period deadline r r
+released_none count t period deadline r h = record { dues = same r.due _; nexts = same r.next _; sents = same r.sent _ }
+  where
+    same : (l : List ℕ) (f : ℕ → ℕ) → Through (released_by t r.next f l) count l l
+    same l f =
+        record {
+          long = refl;
+          below = λ k b. sym (ap (λ (c : Bool). cond c (f k) (get_or l k 0)) (ne_eqb (get_or r.next k 0) t (λ e. omega (arith, h k b))));
+          above = λ k b. refl;
+        }
+
+-- one flow after the other
+module _ (n t : ℕ) (period deadline : List ℕ) (old new : Releases) (r : Released n t period deadline old new) where
+  pub released_now : (x y : ℕ) → x ≡ t + get_or deadline n 0 → y ≡ t + get_or period n 0
+      → n < length old.due → n < length old.next → n < length old.sent → get_or new.next n 0 ≡ t
+      → Released (n + 1) t period deadline old (releases_of (set new.due n x) (set new.next n y) (set new.sent n 0))
+  released_now x y d p a b c e =
+      let h : eqb (get_or old.next n 0) t ≡ true = eq-eqb (get_or old.next n 0) t (sym (r.nexts.above n (le_refl n)) ∙ e) in
+      record {
+        dues = through_next _ n old.due new.due x a (d ∙ sym (ap (λ (z : Bool). cond z (t + get_or deadline n 0) (get_or old.due n 0)) h)) r.dues;
+        nexts = through_next _ n old.next new.next y b (p ∙ sym (ap (λ (z : Bool). cond z (t + get_or period n 0) (get_or old.next n 0)) h)) r.nexts;
+        sents = through_next _ n old.sent new.sent 0 c (sym (ap (λ (z : Bool). cond z 0 (get_or old.sent n 0)) h)) r.sents;
+      }
+
+  pub released_later : (get_or new.next n 0 ≡ t → ⊥) → Released (n + 1) t period deadline old new
+  released_later e =
+      let h : eqb (get_or old.next n 0) t ≡ false = ne_eqb (get_or old.next n 0) t (λ q. e (r.nexts.above n (le_refl n) ∙ q)) in
+      record {
+        dues = through_stay _ n old.due new.due (sym (ap (λ (x : Bool). cond x (t + get_or deadline n 0) (get_or old.due n 0)) h)) r.dues;
+        nexts = through_stay _ n old.next new.next (sym (ap (λ (x : Bool). cond x (t + get_or period n 0) (get_or old.next n 0)) h)) r.nexts;
+        sents = through_stay _ n old.sent new.sent (sym (ap (λ (x : Bool). cond x 0 (get_or old.sent n 0)) h)) r.sents;
+      }
+
 -- no next release of the first n flows comes before a slot
 abbrev pub NoneBefore : ℕ → ℕ → List ℕ → Type 0
 NoneBefore n slot next = (k : ℕ) → k < n → slot ≤ get_or next k 0
+
+-- and one flow more
+pub soon_set : (next : List ℕ) (n x a b : ℕ) → n < length next → b ≤ a → b ≤ x → NoneBefore n a next → NoneBefore (n + 1) b (set next n x)
+soon_set next n x a b h i j f k l = elim (dec_le n k) [
+  | yes d ↦ let e : k ≡ n = omega arith in rw (e, get_or-set_same next n x 0 h) j
+  | no d ↦ rw (get_or-set_other next n k x 0 (λ e. omega arith)) (omega (arith, f k (omega arith)))
+]
+
+pub soon_stay : (next : List ℕ) (n a b : ℕ) → b ≤ a → b ≤ get_or next n 0 → NoneBefore n a next → NoneBefore (n + 1) b next
+soon_stay next n a b i j f k l = elim (dec_le n k) [
+  | yes d ↦ let e : k ≡ n = omega arith in rw e j
+  | no d ↦ omega (arith, f k (omega arith))
+]
 
 module _ (s : FlowSet) (st : State) (numbers : Numbers) (due next : List ℕ) (after : Releases) (n : AfterNumbers s numbers) (g : GoodState (used s) st)
     (u : NextReleases s st.slot.0 numbers due next)

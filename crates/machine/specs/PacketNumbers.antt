@@ -1,7 +1,7 @@
 -- One flow in one slot by its absolute deadline: a packet's release is a whole number of periods after the start, and so the slot less
 -- the place in the period. Entries beyond the last flow are those of no flow, all 0.
 use Rattle.std.specs.Prelude.{◌≡◌, refl, Bool, true, false, ◌&&◌, ◌||◌, cond, List, map, ℕ, ◌+◌, ◌-◌, ◌*◌, ◌/◌, ◌≤◌, ◌<◌, min, leb, ltb, eqb, get_or, take, replicate}
-use Rattle.std.proofs.Common.{sym, ap, ◌∙◌, add-zero, arith, eqb-true, eq-eqb, ne_eqb, le-leb, leb-true, ltb-true, length-take}
+use Rattle.std.proofs.Common.{sym, ap, ◌∙◌, div-add-mod', add-zero, arith, eqb-true, eq-eqb, ne_eqb, le-leb, leb-true, ltb-true, length-take}
 use Rattle.std.proofs.Math.Path.{fun_ext}
 use Rattle.std.proofs.lemmas.Bool.{false≢true, eqb-false}
 use Rattle.std.proofs.Math.Nat.{min-eq_left}
@@ -37,6 +37,10 @@ due_first a p d t h = ap (λ (x : ℕ). x + d) (release_first a p t h)
 -- a slot of the machine and a count of slots: their sum is far from the last number
 pub sum_fits : (t n : ℕ) → t ≤ last_slot → n ≤ 65535 → min (t + n) 4294967295 ≡ t + n
 sum_fits t n h k = min-eq_left (omega (arith, h, k))
+
+-- and so is an absolute deadline
+pub due_fits : (a p d t : ℕ) → a ≤ 65535 → d ≤ 65535 → t ≤ last_slot → min (due_in a p d t) 4294967295 ≡ due_in a p d t
+due_fits a p d t f g h = min-eq_left (omega (arith, div-add-mod' (t - a) p, f, g, h))
 
 -- what comes after a number is no smaller one
 pub next_above : (a b : ℕ) → b ≤ a → eqb (a + 1) b ≡ false

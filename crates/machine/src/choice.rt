@@ -1,6 +1,6 @@
 // Rules 3 and 4: a packet's link, and the choice among the ready packets in their order, each placed if its link shares no node with a
 // placed one.
-ghost use Rattle.std.specs.Prelude.{◌≡◌, [], ◌∷◌, ◌%◌, ◌<◌, ◌≤◌, not, set, true};
+ghost use Rattle.std.specs.Prelude.{◌≡◌, [], ◌∷◌, ◌%◌, ◌<◌, ◌≤◌, drop, not, set, true};
 ghost use Rattle.model.specs.Sets.{meet, memb};
 ghost use Rattle.model.specs.Limits.{most_channels, most_flows};
 ghost use Rattle.machine.specs.LinkColumns.{Busy};
@@ -150,8 +150,9 @@ impl Placed {
         requires few { line.now.waiting ≤ most_flows }
         requires flows_to { FlowsTo line.now.order line.now.waiting }
         requires links_there { LinksThere p.now.sent c.now.work (links_of c.now) }
-        ensures { Choice (choice_by c.now.ways t (packets_at c.now p.now) (link_in p.now.sent (links_of c.now)) line.now.order line.now.waiting)
+        ensures choice { Choice (choice_by c.now.ways t (packets_at c.now p.now) (link_in p.now.sent (links_of c.now)) line.now.order line.now.waiting)
             self.new.flows self.new.marked self.new.count }
+        ensures rest { drop self.new.count self.new.flows ≡ drop self.new.count self.old.flows }
     {
         for &k in &line.order[..line.waiting] {
             if self.count == c.ways {

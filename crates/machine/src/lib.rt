@@ -23,13 +23,13 @@ use crate::slot::step_of;
 use crate::state::refused;
 use model::{FlowSet, Order, Ran, State, Stepped};
 pub use rows::rows_accepted;
-pub use slot::{radio_channel, step_accepted};
+pub use slot::{radio_channel, step_accepted, step_after};
 
 // A run in an order of priority.
 fn run_by(by: Order, s: FlowSet, budget: u32) -> Ran
     ensures { result ≡ run_with (order_of by) (used s) budget }
 {
-    match rules::record_fault(s) {
+    match rules::record_fault_of(&s) {
         Ok(()) => run_accepted(by, &s, budget),
         Err(fault) => Ran {
             fault,
@@ -61,7 +61,7 @@ pub fn fixed_run(s: FlowSet, budget: u32) -> Ran
 fn step_by(by: Order, s: FlowSet, st: State) -> Stepped
     ensures { result ≡ step_with (order_of by) (used s) st }
 {
-    match rules::record_fault(s) {
+    match rules::record_fault_of(&s) {
         Ok(()) => step_of(by, &s, st),
         Err(fault) => refused(fault, st),
     }

@@ -1,5 +1,6 @@
 // Refused steps: what is wrong with a state, and the answer of a step that is refused.
-ghost use Rattle.std.specs.Prelude.{◌≡◌, ◌<◌, ◌↔◌, ℕ, IsTrue, [], cond, get_or, leb};
+ghost use Rattle.std.specs.Prelude.{◌≡◌, [], cond, get_or, leb, ltb};
+ghost use Rattle.model.specs.Sums.{any_to};
 ghost use Rattle.document.specs.Machine.{stepped};
 ghost use Rattle.machine.specs.States.{bad_by};
 ghost use Rattle.model.specs.Limits.{last_slot, most_flows};
@@ -43,9 +44,14 @@ pub fn refused(fault: Fault, st: State) -> Stepped
 
 // Whether a count is above its flow's C, which is 0 beyond the last flow.
 fn any_above(sent: &[u8; Flow::MOST], work: &[u8; Flow::MOST]) -> bool
-    ensures { IsTrue result ↔ ((k : ℕ) × (k < most_flows) × (get_or work.now k 0 < get_or sent.now k 0)) }
+    ensures { result ≡ any_to (λ k. ltb (get_or work.now k 0) (get_or sent.now k 0)) most_flows }
 {
-    work.iter().zip(sent).any(|(work, sent)| work < sent)
+    // Kept: no search that ends at the first, since it looks at one after the other where this takes sixteen at a time.
+    let mut above = false;
+    for k in 0..Flow::MOST {
+        above |= work[k] < sent[k];
+    }
+    above
 }
 
 // Refusal 12: a slot above the last, or a count above its flow's C.

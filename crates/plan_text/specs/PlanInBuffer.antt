@@ -68,8 +68,8 @@ module _ (says : FlowSet → List ℕ) (short : Short says) where
       go true e = short (read_text input).set (text_held input e).0 (text_passes input e)
       go false e = refused_le (read_text input).fault
 
-  pub text_le : (input : List ℕ) → length (text says input) ≤ most_plan
-  text_le input = go (ltb most_input (length input)) refl
+  pub said_le : (input : List ℕ) → length (text says input) ≤ most_plan
+  said_le input = go (ltb most_input (length input)) refl
     where
       go : (b : Bool) → ltb most_input (length input) ≡ b → length (text says input) ≤ most_plan
       go true e = rw (text_long says input e) (refused_le (fault_at NoRoom 0))
@@ -78,18 +78,18 @@ module _ (says : FlowSet → List ℕ) (short : Short says) where
   -- so a buffer of that length always has room, and begins with the text
   pub text_fits : (input : List ℕ) (room : ℕ) → most_plan ≤ room → print_answer says input room ≡ wrote (length (text says input))
   unfolding print_answer
-  text_fits input room h = rw (le-ltb room (length (text says input)) (omega (arith, text_le input)))
+  text_fits input room h = rw (le-ltb room (length (text says input)) (omega (arith, said_le input)))
 
   pub text_begins : (input out : List ℕ) → most_plan ≤ length out → take (length (text says input)) (print_into says input out) ≡ text says input
   unfolding print_into
   text_begins input out h =
-      rw (le-ltb (length out) (length (text says input)) (omega (arith, text_le input)))
+      rw (le-ltb (length out) (length (text says input)) (omega (arith, said_le input)))
       (take_at (text says input) (drop (length (text says input)) out) (length (text says input)) refl)
 
-  pub within : {w : Written} (input out : List ℕ) → w ≡ wrote (length (text says input)) → length out ≡ most_plan → w.length ≤ length out
-  within input out e h =
+  pub said_within : {w : Written} (input out : List ℕ) → w ≡ wrote (length (text says input)) → length out ≡ most_plan → w.length ≤ length out
+  said_within input out e h =
       let b = ap (λ (x : Written). x.length) e in
-      omega (arith, text_le input, b, h)
+      omega (arith, said_le input, b, h)
 
 -- ---- the text in a lent buffer
 
@@ -100,33 +100,34 @@ Printed says input out new w = (w ≡ print_answer says input (length out)) × (
 -- put first into a buffer that is long enough for every plan
 module _ (says : FlowSet → List ℕ) (short : Short says) (input : List ℕ) {o held : List ℕ} {n : ℕ} (p : Put o 0 (text says input) held n) (k : length o ≡ most_plan) where
   whole : n ≡ length (text says input)
-  whole = put_length p (omega (arith, text_le says short input))
+  whole = put_length p (omega (arith, said_le says short input))
 
-  pub whole_long : n ≤ length held
-  whole_long = omega (arith, text_le says short input, whole, put_long p)
+  pub said_long : n ≤ length held
+  said_long = omega (arith, said_le says short input, whole, put_long p)
 
-  pub whole_part : n ≡ length (take n held)
-  whole_part = sym (length-take-le n held whole_long)
+  pub said_part : n ≡ length (take n held)
+  said_part = sym (length-take-le n held said_long)
 
   whole_text : take n held ≡ text says input
-  whole_text = put_read p (omega (arith, text_le says short input)) (omega (arith, text_le says short input))
+  whole_text = put_read p (omega (arith, said_le says short input)) (omega (arith, said_le says short input))
 
-  pub no_room : (out : List ℕ) → length out < n → Printed says input out out (refused_writing (fault_at NoRoom 0))
+  pub said_no_room : (out : List ℕ) → length out < n → Printed says input out out (refused_writing (fault_at NoRoom 0))
   unfolding print_answer print_into
-  no_room out h =
+  said_no_room out h =
       let e : ltb (length out) (length (text says input)) ≡ true = lt-ltb (length out) (length (text says input)) (omega (arith, whole)) in
       (rw e, rw e)
 
-  pub room : (out new : List ℕ) (r : ℕ) → n ≤ length out → Put out 0 (take n held) new r → Printed says input out new (wrote n)
+  pub said_room : (out new : List ℕ) (r : ℕ) → n ≤ length out → Put out 0 (take n held) new r → Printed says input out new (wrote n)
   unfolding print_answer print_into
-  room out new r h q =
+  said_room out new r h q =
       let e : ltb (length out) (length (text says input)) ≡ false = le-ltb (length out) (length (text says input)) (omega (arith, whole)) in
       let g : Put out 0 (text says input) new r = put_same out 0 (take n held) (text says input) new r whole_text q in
       (rw e (ap wrote whole), rw e (put_start g (omega (arith, whole))))
 
 -- ---- of the two programs
 
-says_le : (by : Order) → Short (says_by by)
+-- what each of them tells of an accepted set is short
+pub says_le : (by : Order) → Short (says_by by)
 says_le Deadline = plan_le
 says_le Number = fixed_le
 
@@ -136,3 +137,23 @@ plan_fits by = text_fits (says_by by) (says_le by)
 pub begins : (by : Order) (input out : List ℕ) → most_plan ≤ length out
     → take (length (print_text (says_by by) input)) (print_into (says_by by) input out) ≡ print_text (says_by by) input
 begins by = text_begins (says_by by) (says_le by)
+
+module _ (by : Order) where
+  pub text_le : (input : List ℕ) → length (print_text (says_by by) input) ≤ most_plan
+  text_le = said_le (says_by by) (says_le by)
+
+  pub within : {w : Written} (input out : List ℕ) → w ≡ wrote (length (print_text (says_by by) input)) → length out ≡ most_plan → w.length ≤ length out
+  within = said_within (says_by by) (says_le by)
+
+module _ (by : Order) (input : List ℕ) {o held : List ℕ} {n : ℕ} (p : Put o 0 (print_text (says_by by) input) held n) (k : length o ≡ most_plan) where
+  pub whole_long : n ≤ length held
+  whole_long = said_long (says_by by) (says_le by) input p k
+
+  pub whole_part : n ≡ length (take n held)
+  whole_part = said_part (says_by by) (says_le by) input p k
+
+  pub no_room : (out : List ℕ) → length out < n → Printed (says_by by) input out out (refused_writing (fault_at NoRoom 0))
+  no_room = said_no_room (says_by by) (says_le by) input p k
+
+  pub room : (out new : List ℕ) (r : ℕ) → n ≤ length out → Put out 0 (take n held) new r → Printed (says_by by) input out new (wrote n)
+  room = said_room (says_by by) (says_le by) input p k

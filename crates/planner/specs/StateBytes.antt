@@ -1,6 +1,6 @@
 -- The parts of a state's 68 bytes, as `state_of` and `state_bytes` have them.
-use Rattle.std.specs.Prelude.{◌≡◌, cond, List, [], ◌∷◌, ◌++◌, ℕ, ◌+◌, ◌*◌, ◌/◌, ◌%◌, eqb, get_or, length, take, drop}
-use Rattle.std.proofs.Common.{eq-eqb, arith}
+use Rattle.std.specs.Prelude.{◌≡◌, cond, ◌≢◌, List, [], ◌∷◌, ◌++◌, ℕ, ◌+◌, ◌*◌, ◌/◌, ◌%◌, eqb, get_or, length, take, drop}
+use Rattle.std.proofs.Common.{eq-eqb, ne_eqb, arith}
 use Rattle.std.proofs.lemmas.List.{get_or-take}
 use Rattle.model.specs.declared.kinds.State.{State}
 use Rattle.model.specs.Sets.{fresh_state}
@@ -28,6 +28,12 @@ state_in_law b e = rw (eq-eqb (length b) state_length e)
 
 pub with_state_law : (st : State) (b : List ℕ) → length b ≡ state_length → with_state st b ≡ state_bytes st
 with_state_law st b e = rw (eq-eqb (length b) state_length e)
+
+pub state_none : (b : List ℕ) → length b ≢ state_length → state_in b ≡ fresh_state
+state_none b e = rw (ne_eqb (length b) state_length e)
+
+pub with_none : (st : State) (b : List ℕ) → length b ≢ state_length → with_state st b ≡ b
+with_none st b e = rw (ne_eqb (length b) state_length e)
 
 -- read from its parts, the first four bytes and the others,
 pub state_read : (b slot counts : List ℕ) → length b ≡ state_length → slot ≡ take 4 b → counts ≡ drop 4 b

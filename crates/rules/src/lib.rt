@@ -93,8 +93,8 @@ fn record_flow_fault(k: usize, f: Flow) -> Result<(), Refusal>
 }
 
 // The first flow's fault with its line; a record has no fields. A flow beyond the array is never looked at: its number alone refuses it.
-fn flows_fault(s: FlowSet) -> Result<(), Fault>
-    ensures { result ≡ checked (flows_fault (used s) 0 s.count) }
+fn flows_fault(s: &FlowSet) -> Result<(), Fault>
+    ensures { result ≡ checked (flows_fault (used s.now) 0 s.now.count) }
 {
     for k in 0..s.count as usize {
         if k >= Flow::MOST {
@@ -119,6 +119,13 @@ fn flows_fault(s: FlowSet) -> Result<(), Fault>
 // and no type of accepted sets, since `machine::step_accepted`, `machine::rows_accepted` and the theorems take a `FlowSet`: a type would ask more.
 pub fn record_fault(s: FlowSet) -> Result<(), Fault>
     ensures { result ≡ checked (record_fault (used s)) }
+{
+    record_fault_of(&s)
+}
+
+// The same of a set that is lent, so that who goes on with the set copies it once less.
+pub fn record_fault_of(s: &FlowSet) -> Result<(), Fault>
+    ensures { result ≡ checked (record_fault (used s.now)) }
 {
     if let Err(refusal) = map_fault(s.map.0) {
         return Err(Fault {

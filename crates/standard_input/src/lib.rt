@@ -27,17 +27,17 @@ pub fn read_input<R: Read>(input: &mut R, buf: &mut [u8]) -> io::Result<usize>
     ensures whole { IfOk result (λ n. n < length buf.new → IsAtEnd (R.remaining input.new)) }
 {
     let mut done = 0;
-    for _ in 0..u64::MAX {
-        if done == buf.len() {
-            return Ok(done);
-        }
+    let mut turns = u64::MAX;
+    // Kept: no `for`, since each turn must bring bytes or be an interruption: its measure holds the body to that.
+    while done < buf.len() {
         match came_of(input.read(&mut buf[done..]))? {
             Some(0) => return Ok(done),
             Some(n) => done += n,
-            None => {}
+            None if turns == 0 => return Err(Error::from(ErrorKind::Interrupted)),
+            None => turns -= 1,
         }
     }
-    Err(Error::from(ErrorKind::Interrupted))
+    Ok(done)
 }
 
 // Runs a program that writes what it has to say of its input. A failure is said on standard error in the program's name; an input that cannot be

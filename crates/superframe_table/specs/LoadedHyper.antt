@@ -36,9 +36,15 @@ loaded_some h n e =
     ]
 
 -- the order of the two is free
-pub lcm_turned : (a b : ℕ) → lcm (max a b) (min a b) ≡ lcm a b
+pub lcm_turned : (a b : ℕ) → lcm a b ≡ lcm b a
 unfolding lcm
 lcm_turned a b =
+    let e : max a b ≡ max b a = omega arith in
+    let d : min a b ≡ min b a = omega arith in rw (e, d)
+
+pub lcm_larger_first : (a b : ℕ) → lcm (max a b) (min a b) ≡ lcm a b
+unfolding lcm
+lcm_larger_first a b =
     let e : max (max a b) (min a b) ≡ max a b = omega arith in
     let d : min (max a b) (min a b) ≡ min a b = omega arith in rw (e, d)
 

@@ -188,6 +188,9 @@ pub record FieldsSoFar (s : List ℕ) (from n i : ℕ) : Type 0 where
   pub later : 1 ≤ n
   pub slow : 2 * n ≤ i + 2
 
+pub fields_start : (s : List ℕ) (from : ℕ) → first (drop from s) ≡ [] → FieldsSoFar s from 1 from
+fields_start s from e = record { left = refl; ends = e; later = omega arith; slow = omega arith }
+
 module _ {s : List ℕ} {from n i : ℕ} (inv : FieldsSoFar s from n i) where
   breaks_later : (f : List ℕ) → breaks_flow (suc n) f ≡ not (is_number f)
   breaks_later f = rw (ne_eqb (suc n) 1 (λ q. omega (arith, inv.later)))

@@ -6,6 +6,7 @@ use Rattle.std.proofs.Math.Bool.{or-true}
 use Rattle.std.proofs.lemmas.Bool.{false≢true}
 use Rattle.std.proofs.Math.Decide.{dec_le}
 use Rattle.std.proofs.Math.ListN.{length-set}
+use Rattle.model.specs.declared.kinds.ChannelMap.{ChannelMap}
 use Rattle.model.specs.declared.kinds.Flow.{Flow}
 use Rattle.model.specs.declared.kinds.FlowSet.{FlowSet}
 use Rattle.model.specs.declared.answers.Reading.{Reading}
@@ -27,7 +28,7 @@ use Rattle.text.specs.Places.{line, after}
 use Rattle.text.specs.Fields.{lines_line, fields_line, formed_line, numbers_line, drop_line}
 use Rattle.text.specs.RowFaults.{nodes_of, flow_row_fault, row_repeat}
 use Rattle.text.specs.PaddedEntries.{pad_at, pad_drop}
-use Rattle.text.specs.RowFaults.{flow_of_row, row_or, flow_row_refused, flow_read}
+use Rattle.text.specs.RowFaults.{flow_of_row, set_with, row_or, flow_row_refused, flow_read}
 use Rattle.laws.specs.Padded.{pad_take}
 
 -- rule 7 refuses a route of more than 17 nodes, whatever they are
@@ -195,6 +196,19 @@ pub record Lines (s : List ℕ) (r : Reading) (at k : ℕ) (t : FlowSet) : Type 
   pub few : k ≤ most_flows
   pub long : length t.flows ≡ most_flows
   pub left : r ≡ read_flows t (lines (drop at s))
+
+pub lines_start : (s : List ℕ) (from m : ℕ) (b : FlowSet) → b ≡ blank_set → (c : ChannelMap) → c.0 ≡ m
+    → Lines s (read_flows (set_with m) (lines (drop from s))) from 0 record { map = c; count = b.count; flows = b.flows }
+lines_start s from m b e c h =
+    subst (λ (n : ℕ). Lines s (read_flows (set_with n) (lines (drop from s))) from 0 record { map = c; count = b.count; flows = b.flows }) h
+    (start s from c.0 b e)
+  where
+    start : (s : List ℕ) (from m : ℕ) (b : FlowSet) → b ≡ blank_set
+        → Lines s (read_flows (set_with m) (lines (drop from s))) from 0 record { map = record { 0 = m }; count = b.count; flows = b.flows }
+    start s from m b e =
+        let r = read_flows (set_with m) (lines (drop from s)) in
+        subst (λ (t : FlowSet). Lines s r from 0 record { map = record { 0 = m }; count = t.count; flows = t.flows }) (sym e)
+        record { many = refl; few = omega arith; long = refl; left = refl }
 
 module _ (s : List ℕ) (r : Reading) (at k : ℕ) (t : FlowSet) (inv : Lines s r at k t) where
   pub lines_done : length s ≤ at → accepted t ≡ r

@@ -1,6 +1,6 @@
 -- Laws of a line's numbers: past a tab and a number the rest of the line is a shorter one of the same kind.
 use Rattle.std.specs.Prelude.{◌≡◌, ℕ, zero, suc, ◌+◌, ◌<◌, ◌≤◌, Bool, true, false, cond, not, ◌&&◌, List, [], ◌∷◌, ◌++◌, length, take, drop, replicate, ◌==◌, ◌≢◌, slice_index, slice_index_or, slice_set, refl, Option, Some, None}
-use Rattle.std.proofs.Common.{sym, subst, ◌∙◌, le_refl, add-one, arith, drop_of_length-le, length-set, drop-cons, drop-drop, ne_eqb}
+use Rattle.std.proofs.Common.{sym, subst, ◌∙◌, zero-le, le_refl, add-one, arith, drop_of_length-le, length-set, drop-cons, drop-drop, ne_eqb}
 use Rattle.std.proofs.Math.Path.{ap}
 use Rattle.std.proofs.lemmas.Bool.{false≢true}
 use Rattle.std.proofs.Math.Decide.{dec_le}
@@ -113,6 +113,9 @@ pub record NumbersSoFar (s : List ℕ) (from i k : ℕ) (ns : List ℕ) : Type 0
   pub long : length ns ≡ most_numbers
   pub size : from + length (line (drop from s)) ≡ i + length (line (drop i s))
   pub slow : k ≤ i
+
+pub numbers_start : (s : List ℕ) (from : ℕ) → NumbersSoFar s from from 0 (replicate most_numbers 0)
+numbers_start s from = record { form = refl; few = omega arith; kept = refl; long = refl; size = refl; slow = zero-le }
 
 -- the reading at its next number, which stands after a tab and whose reading says x
 pub record NextNumber (s : List ℕ) (from i k : ℕ) (ns : List ℕ) (x : Option (ℕ × ℕ)) : Type 0 where
@@ -313,6 +316,9 @@ pub record Spelling (s w : List ℕ) (from i at : ℕ) : Type 0 where
   pub left : starts w (drop from s) ≡ starts (drop i w) (drop at s)
   pub place : at ≡ from + i
   pub short : i ≤ length w
+
+pub spelling_start : (s w : List ℕ) (from : ℕ) → Spelling s w from 0 from
+spelling_start s w from = record { left = refl; place = omega arith; short = zero-le }
 
 module _ (s w : List ℕ) (from i at : ℕ) (inv : Spelling s w from i at) where
   pub spelled : i < length w → starts w (drop from s) ≡ (begins (slice_index w i) (drop at s) && starts (drop (suc i) w) (drop 1 (drop at s)))

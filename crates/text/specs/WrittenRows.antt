@@ -1,6 +1,6 @@
 -- The lines of a table's rows, one row more at a time, and how long they are.
-use Rattle.std.specs.Prelude.{◌≡◌, ℕ, zero, suc, ◌+◌, ◌-◌, ◌<◌, ◌≤◌, true, false, List, [], ◌∷◌, ◌++◌, length, take, drop, nat_le, slice_index, slice_index_or, refl}
-use Rattle.std.proofs.Common.{sym, ap, ◌∙◌, append-nil, append_assoc, zero-le, add-one, arith, le-leb, length-append, take_all, take-suc, take-append-drop}
+use Rattle.std.specs.Prelude.{◌≡◌, ℕ, zero, suc, ◌+◌, ◌-◌, ◌*◌, ◌<◌, ◌≤◌, true, false, List, [], ◌∷◌, ◌++◌, length, take, drop, nat_le, slice_index, slice_index_or, refl}
+use Rattle.std.proofs.Common.{sym, ap, ◌∙◌, append-nil, append_assoc, zero-add, suc-add, zero-le, add-one, arith, le-leb, length-append, drop-cons, drop-drop, take_all, take-suc, take-append-drop}
 use Rattle.std.proofs.lemmas.Bool.{lt-leb}
 use Rattle.std.specs.Simd.{first_chunks}
 use Rattle.document.specs.Text.{decimal, decimals, tabbed, line_of}
@@ -12,12 +12,56 @@ unfolding rows_in
 rows_chunks zero l = refl
 rows_chunks (suc n) l = ap (λ (rs : List (List ℕ)). take 4 l ∷ rs) (rows_chunks n (drop 4 l))
 
+-- row i of a table
+abbrev pub row_at : List ℕ → ℕ → List ℕ
+row_at l i = slice_index l (4 * i) ∷ slice_index l (4 * i + 1) ∷ slice_index l (4 * i + 2) ∷ slice_index l (4 * i + 3) ∷ []
+
+-- rows, and the rows after them
+pub rows_split : (i k : ℕ) (l : List ℕ) → rows_in (i + k) l ≡ rows_in i l ++ rows_in k (drop (4 * i) l)
+unfolding rows_in
+rows_split zero k l = rw (zero-add k)
+rows_split (suc i) k l =
+    let z : 4 * suc i ≡ 4 + 4 * i = omega arith in
+    rw (suc-add i k, z, ← drop-drop (4 * i) 4 l, rows_split i k (drop 4 l))
+
+four_numbers : (l : List ℕ) (j : ℕ) → j + 4 ≤ length l
+    → take 4 (drop j l) ≡ slice_index l j ∷ slice_index l (j + 1) ∷ slice_index l (j + 2) ∷ slice_index l (j + 3) ∷ []
+four_numbers l j h =
+    let a : suc j ≡ j + 1 = omega arith in
+    let b : suc (suc j) ≡ j + 2 = omega arith in
+    let c : suc (suc (suc j)) ≡ j + 3 = omega arith in
+    rw (
+      drop-cons l j 0 (omega arith),
+      drop-cons l (suc j) 0 (omega arith),
+      drop-cons l (suc (suc j)) 0 (omega arith),
+      drop-cons l (suc (suc (suc j))) 0 (omega arith),
+      ← a,
+      ← b,
+      ← c,
+    )
+
 pub lines_append : (a b : List (List ℕ)) → row_lines (a ++ b) ≡ row_lines a ++ row_lines b
 unfolding row_lines
 lines_append [] b = refl
 lines_append (r ∷ a) b = rw (lines_append a b) (sym (append_assoc (row_line r) (row_lines a) (row_lines b)))
 
 -- one line more
+pub rows_next : (l : List ℕ) (i : ℕ) → 4 * i + 4 ≤ length l → row_lines (rows_in i l) ++ row_line (row_at l i) ≡ row_lines (rows_in (i + 1) l)
+unfolding row_lines rows_in
+rows_next l i h =
+    ap (λ (x : List ℕ). row_lines (rows_in i l) ++ x) (sym (append-nil (row_line (row_at l i))))
+    ∙ sym (lines_append (rows_in i l) (row_at l i ∷ []))
+    ∙ ap (λ (r : List ℕ). row_lines (rows_in i l ++ (r ∷ []))) (sym (four_numbers l (4 * i) h))
+    ∙ ap row_lines (sym (rows_split i 1 l))
+
+-- more rows have no fewer bytes
+pub rows_more_law : (l : List ℕ) (i n : ℕ) → i ≤ n → length (row_lines (rows_in i l)) ≤ length (row_lines (rows_in n l))
+rows_more_law l i n h =
+    let e : n ≡ i + (n - i) = omega arith in
+    rw (e, rows_split i (n - i) l, lines_append (rows_in i l) (rows_in (n - i) (drop (4 * i) l)))
+    (omega (arith, length-append (row_lines (rows_in i l)) (row_lines (rows_in (n - i) (drop (4 * i) l)))))
+
+-- the same of any rows
 line_one : (r : List ℕ) → row_lines (r ∷ []) ≡ row_line r
 unfolding row_lines
 line_one r = append-nil (row_line r)

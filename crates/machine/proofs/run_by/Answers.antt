@@ -19,5 +19,5 @@ returns-in-Err c =
     let a = c.args in
     let first : Priority = order_of a.by in
     let u = used a.s in
-    let e = checked_err _ c.record_fault.ensures c.in-Err.is in
+    let e = checked_err _ c.record_fault_of.ensures c.in-Err.is in
     ap₂ ran-of e.0 c.fresh.ensures ∙ sym (run_none first u) ∙ sym (run_refused first u (ap (λ (f : Fault). good f.refusal) (sym e.0) ∙ e.1) a.budget)

@@ -12,6 +12,6 @@ use Rattle.machine.proofs.step_by.Goals as goal
 pub returns-in-Err : goal.returns-in-Err
 returns-in-Err c =
     let a = c.args in
-    let e = checked_err _ c.record_fault.ensures c.in-Err.is in
+    let e = checked_err _ c.record_fault_of.ensures c.in-Err.is in
     c.refused.ensures ∙ ap (λ (f : Fault). stepped f a.st [] [] []) e.0
     ∙ sym (step_refused (order_of a.by) (used a.s) a.st (ap (λ (f : Fault). good f.refusal) (sym e.0) ∙ e.1))

@@ -1,6 +1,9 @@
--- What came so far is within the buffer.
-use Rattle.std.proofs.Common.{length, ◌≡◌, ◌≤◌}
+-- What came so far is within the buffer. Each turn leaves less of the buffer, or one turn less after an interruption.
+use Rattle.std.proofs.Common.{length, ◌+◌, ◌-◌, ◌≡◌, ◌≤◌}
 use Rattle.standard_input.proofs.read_input.Given as goal
 
-abbrev pub invariant-loop : goal.invariant-loop
-invariant-loop g l = (l.done ≤ length l.buf) × (length l.buf ≡ length l.initial.buf)
+abbrev pub invariant-loop-done : goal.invariant-loop-done
+invariant-loop-done g l = (l.done ≤ length l.buf) × (length l.buf ≡ length l.initial.buf)
+
+abbrev pub decreases-loop-done : goal.decreases-loop-done
+decreases-loop-done g l = length l.buf - l.done + l.turns

@@ -1,7 +1,7 @@
 -- `take` gives each flow's numbers in turn; C fits a byte since the set is accepted. Assumes nothing.
 use Rattle.machine.specs.PacketNumbers.{accepted_count, accepted_flow}
 use Rattle.machine.specs.LinkColumns.{routes_next}
-use Rattle.machine.specs.ArrayLists.{set_le, through_all, through_next}
+use Rattle.machine.specs.ArrayLists.{set_le_all, through_all, through_next}
 use Rattle.machine.specs.SlotByColumns.{after_numbers, flows_none}
 use Rattle.machine.specs.Structs.{links_of}
 use Rattle.laws.specs.Accepted.{work_small}
@@ -47,8 +47,8 @@ loop-k-preserved c =
         periods = rw e.period (through_next _ v.k _ _ _ l (ap (λ (f : Flow). f.period.0) u) m.periods);
         deadlines = rw e.deadline (through_next _ v.k _ _ _ l (ap (λ (f : Flow). f.deadline.0) u) m.deadlines);
         works = rw e.work (through_next _ v.k _ _ _ l (ap work u) m.works);
-        small_period = rw e.period (set_le _ v.k _ 65535 m.small_period e.widths.0);
-        small_deadline = rw e.deadline (set_le _ v.k _ 65535 m.small_deadline e.widths.1);
+        small_period = rw e.period (set_le_all _ v.k _ 65535 m.small_period e.widths.0);
+        small_deadline = rw e.deadline (set_le_all _ v.k _ 65535 m.small_deadline e.widths.1);
         long_tries = rw e.tries (length-set _ v.k _ ∙ m.long_tries);
         long_routes = rw e.routes (length-set _ v.k _ ∙ m.long_routes);
         links_are = rw (e.tries, e.routes) (routes_next s v.k _ _ (rw m.long_tries l) (rw m.long_routes l) e.widths.2 m.links_are);
